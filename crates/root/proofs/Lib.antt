@@ -1,0 +1,2 @@
+-- The arithmetic of the repeated division.
+pub mod Mean
