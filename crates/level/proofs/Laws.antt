@@ -274,3 +274,32 @@ heard-quiet s h = rw (lt-ltb s 1000000 h, heardOf)
 pub heard-level : (s : ℕ) → 1000000 ≤ s → heardOf s ≡ Level (levelOf s)
 unfolding heardOf
 heard-level s h = rw (le-ltb s 1000000 h, heardOf)
+
+-- ---- bounds
+
+pub energy-decade : (d : ℕ) → energyOf (1000 * d) ≡ 1000000 * 10 ^ d
+energy-decade d =
+    let e : 1000 * d ≡ 1000 * d + 0 = omega arith in
+    ap energyOf e ∙ energy-at d 0 (omega arith) ∙ ap (λ (z : ℕ). z * 10 ^ d) Z-first
+
+-- an energy below that of l has a level below l
+pub level-below : (s l : ℕ) → 1000000 ≤ s → s < energyOf l → levelOf s < l
+level-below s l h e = go (decLt (levelOf s) l)
+  where
+    go : Dec (levelOf s < l) → levelOf s < l
+    go (yes a) = a
+    go (no a) =
+        let b : energyOf l ≤ energyOf (levelOf s) = energy-rises l (levelOf s) (omega arith) in
+        absurd (omega (arith, level-reached s h .has))
+
+-- lv between whole decades
+pub lv-least : (d n : ℕ) → 10 ^ d ≤ n → 1000 * d ≤ levelOf (n * 1000000)
+lv-least d n h =
+    let p : 0 < 10 ^ d = tens d in
+    let e : energyOf (1000 * d) ≡ 1000000 * 10 ^ d = energy-decade d in
+    level-greatest (n * 1000000) (1000 * d) (omega arith) (omega arith)
+
+pub lv-most : (d n : ℕ) → 1 ≤ n → n < 10 ^ d → levelOf (n * 1000000) < 1000 * d
+lv-most d n l h =
+    let e : energyOf (1000 * d) ≡ 1000000 * 10 ^ d = energy-decade d in
+    level-below (n * 1000000) (1000 * d) (omega arith) (omega arith)

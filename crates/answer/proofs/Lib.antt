@@ -1,0 +1,2 @@
+-- What the table of numbers settles.
+pub mod Laws

@@ -1,0 +1,7 @@
+pub mod Packing
+pub mod Numbers
+pub mod Writes
+pub mod Bounds
+pub mod Laws
+pub mod Turns
+pub mod Examples

@@ -1,0 +1,7 @@
+-- Laws of roads: bounds, what allowed fields tell, what callers may use of a pair; and the figures.
+pub mod Bounds
+pub mod Fit
+pub mod Judged
+pub mod Sums
+pub mod Pairs
+pub mod Figures

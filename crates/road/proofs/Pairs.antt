@@ -1,0 +1,206 @@
+-- What callers may use of a pair: when it is barred and when it is heard, and that an accepted share is at most 10^15.
+-- First, that the code's way of adding up gives the definition's. Assumes nothing.
+use mathlib.Core.Path.{_≡_, refl, sym, ap, ap₂, _∙_, subst}
+use mathlib.Core.Bool.{Bool, true, false, cond, _||_}
+use mathlib.Core.List.{List, [], _∷_}
+use Prim.Native.Nat.{ℕ, zero, suc, _+_, _-_, _*_, _/_, _^_, _≤_, _<_}
+use native.Mathlib.Nat.{sub-le, mul-comm, mul-le-mul, mul-le-mul-left, div-le-of-le-mul, le-trans}
+use native.Mathlib.Decide.{decLe, decLt}
+use native.Mathlib.Omega.{arith}
+use lib.ListN.{getD}
+use lib.Dec.{leb, ltb, eqb}
+use borrow.Author.Tests.{lt-ltb, le-ltb, ltb-false}
+use Rattle.level.specs.Level.{lvOf, energyOf}
+use Rattle.level.proofs.Laws.{energy-rises, energy-decade}
+use Rattle.root.specs.Root.{rootOf}
+use Rattle.road.specs.declared.Term.{Term}
+use Rattle.road.specs.declared.Source.{Source}
+use Rattle.road.specs.declared.Receiver.{Receiver}
+use Rattle.road.specs.declared.Voice.{Voice}
+use Rattle.road.specs.declared.Shares.{Shares}
+use Rattle.road.specs.declared.Bar.the-variants.{Near, Far, Long, Loud}
+use Rattle.road.specs.declared.Pair.{Pair}
+use Rattle.road.specs.declared.Pair.the-variants.{Heard, Barred}
+use Rattle.road.specs.declared.reach.Part.{Part}
+use Rattle.road.specs.Term.{term, _⊕_, period}
+use Rattle.road.specs.Emission.{emissionLevel}
+use Rattle.road.specs.Reach.{square, planSquare, spaceSquare, lengthTerm, distanceTerm, groundTerm, wallsTerm, weatherOf, weatherTerm, rayHeight, shareLevel, energyShare, tooLoud, shareOf, loudIn, sharesOf, pairOf}
+use Rattle.road.specs.Inner.{silent, voiceOf, voicesOf, partOf, wayOf, partIn, told, hearOf}
+use Rattle.road.proofs.Bounds.{times, lv-small}
+use Rattle.road.proofs.Sums.{term-eq, Small}
+
+-- ---- bounds of the way
+
+pub ground-most : (h r : ℕ) → groundTerm h r .down ≤ 480
+unfolding groundTerm
+ground-most h r = sub-le 480 _
+
+pub small-way : (q r h : ℕ) → 1 ≤ q → q ≤ 40000000000 → r ≤ 1000000 → Small 100000 (distanceTerm q r ⊕ groundTerm h r)
+unfolding distanceTerm groundTerm
+small-way q r h a b d = record {
+  up = omega arith;
+  down = omega (arith, lv-small q a (omega arith), sub-le 480 (h * (1700 * r + 3000000) / square r));
+}
+
+pub weather-most : (c h r : ℕ) → weatherTerm c h r .down ≤ c
+unfolding weatherTerm
+weather-most c h r = go (leb r (10 * h))
+  where
+    far : c * (r - 10 * h) / r ≤ c
+    far = div-le-of-le-mul r (subst (λ (n : ℕ). c * (r - 10 * h) ≤ n) (mul-comm c r) (mul-le-mul-left c (sub-le r (10 * h))))
+
+    go : (b : Bool) → cond b 0 (c * (r - 10 * h) / r) ≤ c
+    go true = omega arith
+    go false = far
+
+-- the root of a squared distance up to 2 km
+pub record Reached (r : ℕ) : Type 0 where
+  pub some : 1 ≤ r
+  pub most : r ≤ 1000000
+
+pub reached : (q r : ℕ) → 1 ≤ q → q ≤ 40000000000 → (r * r ≤ q) × (q < (r + 1) * (r + 1)) → Reached r
+reached q zero a b e = absurd (omega (arith, e .1))
+reached q (suc r) a b e = record { some = omega arith; most = go (decLe (suc r) 1000000) }
+  where
+    go : Dec (suc r ≤ 1000000) → suc r ≤ 1000000
+    go (yes h) = h
+    go (no h) =
+        let l : 1000001 * 1000001 ≤ suc r * suc r = times 1000001 1000001 (suc r) (suc r) (omega arith) (omega arith) in
+        absurd (omega (arith, e .0))
+
+-- ---- the code's sums are the definition's
+
+level-is : (s : Source) (r : Receiver) (i : ℕ)
+    → emissionLevel s i ⊕ lengthTerm (s .length) ⊕ wallsTerm (s .walls) (s .height) (s .spacing) ⊕ wayOf (planSquare s r) (spaceSquare s r) (rayHeight r) i
+    ≡ shareLevel s r i
+unfolding shareLevel
+level-is s r i = same (emissionLevel s i) (lengthTerm (s .length)) _ _ _ _
+  where
+    same : (e l w d g m : Term) → e ⊕ l ⊕ w ⊕ (d ⊕ g ⊕ m) ≡ e ⊕ l ⊕ d ⊕ g ⊕ w ⊕ m
+    same e l w d g m = term-eq _ _ (omega arith) (omega arith)
+
+-- a part that is too loud has no energy
+partWith : Bool → ℕ → Part
+partWith loud e = record { loud = loud; energy = cond loud 0 e }
+
+part-voiced : (v : Voice) (t : Term) (l : Term) → v .sounds ≡ true → v .level ⊕ t ≡ l → partOf v t ≡ partWith (tooLoud l) (energyShare l)
+unfolding partOf partWith
+part-voiced v t l e f = rw (e, partOf) (ap (λ (x : Term). chosen (tooLoud x) (energyShare x)) f ∙ go (tooLoud l))
+  where
+    chosen : Bool → ℕ → Part
+    chosen b n = cond b (record { loud = true; energy = 0 }) (record { loud = false; energy = n })
+
+    go : (b : Bool) → chosen b (energyShare l) ≡ record { loud = b; energy = cond b 0 (energyShare l) }
+    go true = refl
+    go false = refl
+
+part-is : (s : Source) (r : Receiver) (i : ℕ)
+    → partOf (voiceOf s i) (wayOf (planSquare s r) (spaceSquare s r) (rayHeight r) i) ≡ partWith (loudIn s r i) (shareOf s r i)
+unfolding voiceOf loudIn shareOf
+part-is s r i = go (eqb (period s i .m) 0)
+  where
+    sent : Voice
+    sent = record { sounds = true; level = emissionLevel s i ⊕ lengthTerm (s .length) ⊕ wallsTerm (s .walls) (s .height) (s .spacing) }
+
+    go : (b : Bool)
+        → partOf (cond b silent sent) (wayOf (planSquare s r) (spaceSquare s r) (rayHeight r) i)
+        ≡ partWith (cond b false (tooLoud (shareLevel s r i))) (cond b 0 (energyShare (shareLevel s r i)))
+    go true = nothing (wayOf (planSquare s r) (spaceSquare s r) (rayHeight r) i)
+      where
+        nothing : (t : Term) → partOf silent t ≡ partWith false 0
+        nothing t = unfold partOf partWith in refl
+    go false = part-voiced sent (wayOf (planSquare s r) (spaceSquare s r) (rayHeight r) i) (shareLevel s r i) refl (level-is s r i)
+
+told-is : (a b d : Bool) (x y z : ℕ)
+    → told (partWith a x) (partWith b y) (partWith d z) ≡ cond (a || b || d) (Barred Loud) (Heard (record { day = x; evening = y; night = z }))
+unfolding partWith
+told-is true b d x y z = refl
+told-is false true d x y z = refl
+told-is false false true x y z = refl
+told-is false false false x y z = refl
+
+pub hear-is : (s : Source) (r : Receiver)
+    → hearOf (voicesOf s) (planSquare s r) (spaceSquare s r) (rayHeight r)
+    ≡ cond (loudIn s r 0 || loudIn s r 1 || loudIn s r 2) (Barred Loud) (Heard (sharesOf s r))
+unfolding hearOf voicesOf sharesOf
+hear-is s r =
+    (λ i. told (part-is s r 0 i) (part-is s r 1 i) (part-is s r 2 i))
+    ∙ told-is (loudIn s r 0) (loudIn s r 1) (loudIn s r 2) (shareOf s r 0) (shareOf s r 1) (shareOf s r 2)
+
+-- ---- the pair's answer, case by case
+
+module _ (s : Source) (r : Receiver) where
+  pub pair-near : spaceSquare s r < 250000 → pairOf s r ≡ Barred Near
+  unfolding pairOf
+  pair-near h = rw (lt-ltb (spaceSquare s r) 250000 h, pairOf)
+
+  pub pair-far : 40000000000 < spaceSquare s r → pairOf s r ≡ Barred Far
+  unfolding pairOf
+  pair-far h = rw (le-ltb (spaceSquare s r) 250000 (omega arith), lt-ltb 40000000000 (spaceSquare s r) h, pairOf)
+
+  pub pair-long : 250000 ≤ spaceSquare s r → spaceSquare s r ≤ 40000000000 → spaceSquare s r < 4 * square (s .length) → pairOf s r ≡ Barred Long
+  unfolding pairOf
+  pair-long a b h =
+      rw (le-ltb (spaceSquare s r) 250000 a, le-ltb 40000000000 (spaceSquare s r) b, lt-ltb (spaceSquare s r) (4 * square (s .length)) h, pairOf)
+
+  pub pair-within : 250000 ≤ spaceSquare s r → spaceSquare s r ≤ 40000000000 → 4 * square (s .length) ≤ spaceSquare s r
+      → pairOf s r ≡ hearOf (voicesOf s) (planSquare s r) (spaceSquare s r) (rayHeight r)
+  unfolding pairOf
+  pair-within a b h =
+      rw (le-ltb (spaceSquare s r) 250000 a, le-ltb 40000000000 (spaceSquare s r) b, le-ltb (spaceSquare s r) (4 * square (s .length)) h, pairOf)
+      (sym (hear-is s r))
+
+-- ---- an accepted share
+
+pub share-most : (s : Source) (r : Receiver) (i : ℕ) → loudIn s r i ≡ false → shareOf s r i ≤ 1000000000000000
+unfolding shareOf loudIn energyShare
+share-most s r i = go (eqb (period s i .m) 0)
+  where
+    t : Term
+    t = shareLevel s r i
+
+    top : energyOf 9000 ≡ 1000000 * 10 ^ 9
+    top = energy-decade 9
+
+    heard : t .up - t .down ≤ 9000 → (b : Bool) → cond b 0 (energyOf (t .up - t .down)) ≤ 1000000000000000
+    heard h true = omega arith
+    heard h false = omega (arith, top, energy-rises (t .up - t .down) 9000 h)
+
+    go : (b : Bool) → cond b false (tooLoud t) ≡ false → cond b 0 (cond (ltb (t .up) (t .down)) 0 (energyOf (t .up - t .down))) ≤ 1000000000000000
+    go true e = omega arith
+    go false e = heard (ltb-false 9000 (t .up - t .down) e) (ltb (t .up) (t .down))
+
+or-false : (a b : Bool) → (a || b) ≡ false → (a ≡ false) × (b ≡ false)
+or-false true b e = absurd (let z : _≡_ {A = ℕ} 0 1 = cc in omega arith)
+or-false false b e = (refl, e)
+
+-- what is known of the shares of a pair that is heard
+pub record Sound (h : Shares) : Type 0 where
+  pub day : h .day ≤ 1000000000000000
+  pub evening : h .evening ≤ 1000000000000000
+  pub night : h .night ≤ 1000000000000000
+
+heard-only : (b : Bool) (p : Pair) (x : Shares) → cond b (Barred Loud) p ≡ Heard x → (b ≡ false) × (p ≡ Heard x)
+heard-only true p x e = absurd (let z : _≡_ {A = ℕ} 0 1 = cc in omega arith)
+heard-only false p x e = (refl, e)
+
+past : (b : Bool) (q p : Pair) (x : Shares) → (q ≡ Heard x → ⊥) → cond b q p ≡ Heard x → p ≡ Heard x
+past true q p x n e = absurd (n e)
+past false q p x n e = e
+
+pub heard-is : (s : Source) (r : Receiver) (h : Shares) → pairOf s r ≡ Heard h → (h ≡ sharesOf s r) × Sound h
+unfolding pairOf sharesOf
+heard-is s r h e =
+    let near : Barred Near ≡ Heard h → ⊥ = λ x. let z : _≡_ {A = ℕ} 0 1 = cc in omega arith in
+    let far : Barred Far ≡ Heard h → ⊥ = λ x. let z : _≡_ {A = ℕ} 0 1 = cc in omega arith in
+    let long : Barred Long ≡ Heard h → ⊥ = λ x. let z : _≡_ {A = ℕ} 0 1 = cc in omega arith in
+    let p = past (ltb (spaceSquare s r) 250000) _ _ h near e in
+    let q = past (ltb 40000000000 (spaceSquare s r)) _ _ h far p in
+    let l = past (ltb (spaceSquare s r) (4 * square (s .length))) _ _ h long q in
+    let o = heard-only (loudIn s r 0 || loudIn s r 1 || loudIn s r 2) _ h l in
+    let a = or-false (loudIn s r 0 || loudIn s r 1) (loudIn s r 2) (o .0) in
+    let b = or-false (loudIn s r 0) (loudIn s r 1) (a .0) in
+    let same : Heard h ≡ Heard (sharesOf s r) = sym (o .1) in
+    let eq : h ≡ sharesOf s r = cc in
+    let sound : Sound (sharesOf s r) = record { day = share-most s r 0 (b .0); evening = share-most s r 1 (b .1); night = share-most s r 2 (a .1) } in
+    (eq, subst Sound (sym eq) sound)

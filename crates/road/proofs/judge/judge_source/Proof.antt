@@ -1,0 +1,123 @@
+-- `judge_source` refuses the first field outside its limits, then a slow surface, then a quiet truck.
+-- Assumes nothing.
+use mathlib.Core.Path.{_≡_, refl, sym, ap, _∙_}
+use mathlib.Core.Bool.{Bool, true, false, _&&_, cond}
+use Prim.Native.Nat.{ℕ}
+use lib.Dec.{leb}
+use Rattle.layout.specs.Bounds.{firstOutside}
+use Rattle.answer.specs.declared.Refusal.the-variants.{SlowSurface, QuietTruck}
+use Rattle.road.specs.declared.Source.{Source}
+use Rattle.road.specs.declared.Verdict.{Verdict}
+use Rattle.road.specs.declared.Verdict.the-variants.{Allowed, Refused}
+use Rattle.road.specs.Judge.{sourceFields, sourceLeast, sourceMost, slowSurface, quietTruck, sourceVerdict}
+use Rattle.road.proofs.Judged.{outside, inside}
+use borrow.Author.Needs.{needs}
+use Rattle.road.proofs.judge.judge_source.Statement.{statement}
+use Rattle.road.proofs.judge.judge_source.Tie as tie
+
+-- the verdict once no field is outside
+abbrev rest : Source → Verdict
+rest s = cond (slowSurface s) (Refused SlowSurface) (cond (quietTruck s) (Refused QuietTruck) Allowed)
+
+-- the first of the two tests that holds
+choose : (s : Source) (a b : Bool) → slowSurface s ≡ a → quietTruck s ≡ b
+    → cond a (Refused SlowSurface) (cond b (Refused QuietTruck) Allowed) ≡ rest s
+choose s a b e f = sym (λ i. cond (e i) (Refused SlowSurface) (cond (f i) (Refused QuietTruck) Allowed))
+
+source-fields-requires : tie.Need-source-fields-requires
+source-fields-requires c κs = search needs
+
+source-least-requires : tie.Need-source-least-requires
+source-least-requires c κs = search needs
+
+source-most-requires : tie.Need-source-most-requires
+source-most-requires c κs = search needs
+
+slice-aggregate-first-outside : tie.Need-slice-aggregate-first-outside
+slice-aggregate-first-outside c = search needs
+
+slice-aggregate-first-outside-2 : tie.Need-slice-aggregate-first-outside-2
+slice-aggregate-first-outside-2 c = search needs
+
+slice-aggregate-first-outside-3 : tie.Need-slice-aggregate-first-outside-3
+slice-aggregate-first-outside-3 c = search needs
+
+first-outside-requires : tie.Need-first-outside-requires
+first-outside-requires c κs = search needs
+
+cast-t15 : tie.Need-cast-t15
+cast-t15 c = search needs
+
+add-t16 : tie.Need-add-t16
+add-t16 c = search needs
+
+returns : tie.Need-returns
+unfolding sourceVerdict
+returns c =
+    let s = c .before .before .before .before .before .before .before .before .args .s in
+    let e : c .before .first-outside .result ≡ firstOutside (sourceLeast s) (sourceMost s) (sourceFields s) =
+    c .before .first-outside .ensures
+    ∙ (λ i. firstOutside (c .before .before .before .before .before .before .source-least .ensures i) (c .before .before .before .before .before .source-most .ensures i) (c .before .before .before .before .before .before .before .source-fields .ensures i)) in
+    outside (sourceLeast s) (sourceMost s) (sourceFields s) (rest s) (c .before .first-outside .result) e (c .if1 .taken)
+
+cast-within : tie.Need-cast-within
+cast-within c = search needs
+
+within-requires : tie.Need-within-requires
+within-requires c κs = search needs
+
+returns-2 : tie.Need-returns-2
+unfolding sourceVerdict
+returns-2 c =
+    let s = c .before .before .before .before .before .before .before .before .before .before .before .before .args .s in
+    let e : c .before .before .before .before .before .first-outside .result ≡ firstOutside (sourceLeast s) (sourceMost s) (sourceFields s) =
+    c .before .before .before .before .before .first-outside .ensures
+    ∙ (λ i. firstOutside (c .before .before .before .before .before .before .before .before .before .before .source-least .ensures i) (c .before .before .before .before .before .before .before .before .before .source-most .ensures i) (c .before .before .before .before .before .before .before .before .before .before .before .source-fields .ensures i)) in
+    let slow : slowSurface s ≡ true = ap (λ (x : ℕ). leb 5 (s .surface) && leb x 60) (sym (c .before .within .ensures)) ∙ c .if2 .taken in
+    choose s true (quietTruck s) slow refl ∙ inside (sourceLeast s) (sourceMost s) (sourceFields s) (rest s) (c .before .before .before .before .before .first-outside .result) e (c .before .before .before .before .if1 .left)
+
+quiet-truck-requires : tie.Need-quiet-truck-requires
+quiet-truck-requires c κs = search needs
+
+returns-3 : tie.Need-returns-3
+unfolding sourceVerdict
+returns-3 c =
+    let s = c .before .before .before .before .before .before .before .before .before .before .before .before .before .before .args .s in
+    let e : c .before .before .before .before .before .before .before .first-outside .result ≡ firstOutside (sourceLeast s) (sourceMost s) (sourceFields s) =
+    c .before .before .before .before .before .before .before .first-outside .ensures
+    ∙ (λ i. firstOutside (c .before .before .before .before .before .before .before .before .before .before .before .before .source-least .ensures i) (c .before .before .before .before .before .before .before .before .before .before .before .source-most .ensures i) (c .before .before .before .before .before .before .before .before .before .before .before .before .before .source-fields .ensures i)) in
+    let slow : slowSurface s ≡ false = ap (λ (x : ℕ). leb 5 (s .surface) && leb x 60) (sym (c .before .before .before .within .ensures)) ∙ c .before .before .if2 .left in
+    let quiet : quietTruck s ≡ true = sym (c .before .quiet-truck .ensures) ∙ c .if3 .taken in
+    choose s false true slow quiet ∙ inside (sourceLeast s) (sourceMost s) (sourceFields s) (rest s) (c .before .before .before .before .before .before .before .first-outside .result) e (c .before .before .before .before .before .before .if1 .left)
+
+returns-4 : tie.Need-returns-4
+unfolding sourceVerdict
+returns-4 c =
+    let s = c .before .before .before .before .before .before .before .before .before .before .before .before .before .before .args .s in
+    let e : c .before .before .before .before .before .before .before .first-outside .result ≡ firstOutside (sourceLeast s) (sourceMost s) (sourceFields s) =
+    c .before .before .before .before .before .before .before .first-outside .ensures
+    ∙ (λ i. firstOutside (c .before .before .before .before .before .before .before .before .before .before .before .before .source-least .ensures i) (c .before .before .before .before .before .before .before .before .before .before .before .source-most .ensures i) (c .before .before .before .before .before .before .before .before .before .before .before .before .before .source-fields .ensures i)) in
+    let slow : slowSurface s ≡ false = ap (λ (x : ℕ). leb 5 (s .surface) && leb x 60) (sym (c .before .before .before .within .ensures)) ∙ c .before .before .if2 .left in
+    let quiet : quietTruck s ≡ false = sym (c .before .quiet-truck .ensures) ∙ c .if3 .left in
+    choose s false false slow quiet ∙ inside (sourceLeast s) (sourceMost s) (sourceFields s) (rest s) (c .before .before .before .before .before .before .before .first-outside .result) e (c .before .before .before .before .before .before .if1 .left)
+
+pub judge-source-spec : {M : Type 1} → statement M
+judge-source-spec =
+    tie.close
+    (tie.spec
+    source-fields-requires
+    source-least-requires
+    source-most-requires
+    slice-aggregate-first-outside
+    slice-aggregate-first-outside-2
+    slice-aggregate-first-outside-3
+    first-outside-requires
+    cast-t15
+    add-t16
+    returns
+    cast-within
+    within-requires
+    returns-2
+    quiet-truck-requires
+    returns-3
+    returns-4)

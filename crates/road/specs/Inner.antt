@@ -1,0 +1,91 @@
+-- Values that only inner functions of this crate hand on: what a road sends out, and a share before it is told to the caller.
+-- A reader of the promises can pass over this file.
+use Prim.Native.Nat.{ℕ, _+_, _-_, _*_, _≤_}
+use mathlib.Core.Bool.{Bool, true, false, cond, not, _||_}
+use mathlib.Core.List.{List, [], _∷_}
+use lib.ListN.{getD}
+use lib.Dec.{eqb}
+use Rattle.root.specs.Root.{rootOf}
+use Rattle.level.specs.Level.{lvOf, energyOf}
+use Rattle.road.specs.declared.Term.{Term}
+use Rattle.road.specs.declared.Source.{Source}
+use Rattle.road.specs.declared.Traffic.{Traffic}
+use Rattle.road.specs.declared.Voice.{Voice}
+use Rattle.road.specs.declared.reach.Part.{Part}
+use Rattle.road.specs.declared.emission.Pace.{Pace}
+use Rattle.road.specs.Term.{term, _⊕_, period}
+use Rattle.road.specs.Emission.{emissionLevel, trafficTerm, surfaceTerm, gradientTerm, reflectionTerm, carSpeed, truckSpeed, truckGain, carLevel}
+use Rattle.road.specs.declared.Bar.the-variants.{Loud}
+use Rattle.road.specs.declared.Pair.{Pair}
+use Rattle.road.specs.declared.Pair.the-variants.{Heard, Barred}
+use Rattle.road.specs.Reach.{lengthTerm, wallsTerm, distanceTerm, groundTerm, weatherTerm, weatherOf, energyShare, tooLoud}
+
+-- what speed gives: one car's level, and how much more energy than the car's a truck has, of which p takes its part
+abbrev pub paceOf : Source → Pace
+paceOf s = record {
+  car = carLevel (carSpeed (s .car));
+  gain = energyOf (truckGain (carSpeed (s .car)) (truckSpeed (s .truck))) - 1000000;
+}
+
+abbrev pub speedBy : Pace → ℕ → Term
+speedBy pace p = term (pace .car + lvOf (1000000000 + pace .gain * p)) (3730 + lvOf (100000 + 823 * p) + 4000)
+
+-- the terms that are the same in every period and at every point
+abbrev pub steadyTerm : Source → Term
+steadyTerm s =
+    surfaceTerm (s .surface) (carSpeed (s .car)) ⊕ gradientTerm (s .gradient) ⊕ reflectionTerm (s .reflection) ⊕ lengthTerm (s .length)
+    ⊕ wallsTerm (s .walls) (s .height) (s .spacing)
+
+abbrev pub silent : Voice
+silent = record { sounds = false; level = term 0 0 }
+
+abbrev pub voiceBy : ℕ → Pace → Term → Traffic → Voice
+voiceBy lanes pace steady t =
+    cond (eqb (t .m) 0) silent (record { sounds = true; level = trafficTerm lanes t ⊕ speedBy pace (t .p) ⊕ steady })
+
+-- what the source sends out in the period i
+unfoldable pub voiceOf : Source → ℕ → Voice
+voiceOf s i =
+    cond (eqb (period s i .m) 0)
+    silent
+    (record {
+      sounds = true;
+      level = emissionLevel s i ⊕ lengthTerm (s .length) ⊕ wallsTerm (s .walls) (s .height) (s .spacing);
+    })
+
+unfoldable pub voicesOf : Source → List Voice
+voicesOf s = voiceOf s 0 ∷ voiceOf s 1 ∷ voiceOf s 2 ∷ []
+
+-- the share of a voice by a way
+unfoldable pub partOf : Voice → Term → Part
+partOf v t =
+    cond (v .sounds)
+    (cond (tooLoud (v .level ⊕ t))
+    (record { loud = true; energy = 0 })
+    (record { loud = false; energy = energyShare (v .level ⊕ t) }))
+    (record { loud = false; energy = 0 })
+
+-- the voices are levels that can be added up
+pub record Modest (v : Voice) : Type 0 where
+  pub up : v .level .up ≤ 100000
+  pub down : v .level .down ≤ 100000
+
+pub record Moderate (vs : List Voice) : Type 0 where
+  pub day : Modest (getD vs 0 silent)
+  pub evening : Modest (getD vs 1 silent)
+  pub night : Modest (getD vs 2 silent)
+
+-- the way in the period i: distance, ground, weather
+abbrev pub wayOf : ℕ → ℕ → ℕ → ℕ → Term
+wayOf q0 q h i = distanceTerm q (rootOf q) ⊕ groundTerm h (rootOf q) ⊕ weatherTerm (weatherOf i) h (rootOf q0)
+
+abbrev pub partIn : List Voice → ℕ → ℕ → ℕ → ℕ → Part
+partIn vs q0 q h i = partOf (getD vs i silent) (wayOf q0 q h i)
+
+abbrev pub told : Part → Part → Part → Pair
+told day evening night =
+    cond (day .loud || evening .loud || night .loud) (Barred Loud)
+    (Heard (record { day = day .energy; evening = evening .energy; night = night .energy }))
+
+unfoldable pub hearOf : List Voice → ℕ → ℕ → ℕ → Pair
+hearOf vs q0 q h = told (partIn vs q0 q h 0) (partIn vs q0 q h 1) (partIn vs q0 q h 2)

@@ -1,0 +1,6 @@
+pub mod Term
+pub mod Emission
+pub mod Reach
+pub mod Judge
+pub mod Figures
+pub mod Inner

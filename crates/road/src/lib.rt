@@ -1,0 +1,77 @@
+// Roads and the points where people live: what a road gives out, and what of it reaches a point (VBUS sections 3.4 to 3.8, 3.10).
+// Each term of the method is a definition of its own in specs/; the code here gives exactly their values.
+pub mod emission;
+pub mod judge;
+pub mod reach;
+
+use answer::Refusal;
+
+// Traffic of one period: M in thousandths of a vehicle per hour, p in tenths of a percent.
+pub struct Traffic {
+    pub m: u32,
+    pub p: u16,
+}
+
+// A piece of road, document 01's source fields 2 to 19. Lengths are in cm. The gradient is the field's eight bits: 128 for a
+// road that falls, and the tenths of a percent.
+pub struct Source {
+    pub x: u32,
+    pub y: u32,
+    pub length: u32,
+    pub lanes: u8,
+    pub car: u8,
+    pub truck: u8,
+    pub surface: u8,
+    pub gradient: u8,
+    pub reflection: u8,
+    pub walls: u8,
+    pub height: u16,
+    pub spacing: u16,
+    pub traffic: [Traffic; 3],
+}
+
+// A point where people live, document 01's receiver fields 2 to 4.
+pub struct Receiver {
+    pub x: u32,
+    pub y: u32,
+    pub height: u16,
+}
+
+// A level in hundredths of a dB as what it adds and what it takes off.
+pub struct Term {
+    pub up: u32,
+    pub down: u32,
+}
+
+// What a road sends out in one period, before distance: whether there is traffic at all, and its level.
+pub struct Voice {
+    pub sounds: bool,
+    pub level: Term,
+}
+
+// The energies of one road at one point, by day, in the evening and at night.
+pub struct Shares {
+    pub day: u64,
+    pub evening: u64,
+    pub night: u64,
+}
+
+// Why a road and a point do not go together.
+pub enum Bar {
+    Near,
+    Far,
+    Long,
+    Loud,
+}
+
+// What a road and a point make: three shares, or a bar.
+pub enum Pair {
+    Heard(Shares),
+    Barred(Bar),
+}
+
+// Whether fields are allowed.
+pub enum Verdict {
+    Allowed,
+    Refused(Refusal),
+}
