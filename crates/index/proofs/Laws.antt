@@ -1,0 +1,53 @@
+-- Bounds: the level of a sum is at most 117.09 dB, and the energies of the three periods add up to less than 2^64. Assumes nothing.
+use mathlib.Core.Path.{_≡_, refl, sym, ap, _∙_, subst}
+use Prim.Native.Nat.{ℕ, _+_, _*_, _^_, _≤_, _<_}
+use native.Mathlib.Decide.{decLt}
+use native.Mathlib.Omega.{arith}
+use lib.Dec.{lit≤}
+use Rattle.level.specs.Table.{table, firstQuarter, secondQuarter, thirdQuarter, fourthQuarter}
+use Rattle.level.specs.Level.{energyOf, levelOf, heardOf}
+use Rattle.level.specs.declared.Heard.{Heard}
+use Rattle.level.specs.declared.Heard.the-variants.{Level}
+use Rattle.level.specs.declared.Heard.the-variants.{Quiet as Unheard}
+use Rattle.level.proofs.Laws.{level-below, level-reached, energy-rises, energy-decade, heard-quiet, heard-level}
+use Rattle.index.specs.Index.{top, levelIn, lift, liftedOf}
+
+-- three entries of the table, worked out
+pub loudest : energyOf 11710 ≡ 512861400000000000
+unfolding energyOf table firstQuarter secondQuarter thirdQuarter fourthQuarter
+loudest = refl
+
+pub evening-most : energyOf 12209 ≡ 1618080000000000000
+unfolding energyOf table firstQuarter secondQuarter thirdQuarter fourthQuarter
+evening-most = refl
+
+pub night-most : energyOf 12709 ≡ 5116818000000000000
+unfolding energyOf table firstQuarter secondQuarter thirdQuarter fourthQuarter
+night-most = refl
+
+-- what is heard of a sum, case by case
+heard-cases : (P : Heard → Type 0) (s : ℕ) → (s < 1000000 → P Unheard) → (1000000 ≤ s → P (Level (levelOf s))) → P (heardOf s)
+heard-cases P s f g = go (decLt s 1000000)
+  where
+    go : Dec (s < 1000000) → P (heardOf s)
+    go (yes h) = subst P (sym (heard-quiet s h)) (f h)
+    go (no h) = let k : 1000000 ≤ s = omega arith in subst P (sym (heard-level s k)) (g k)
+
+pub level-small : (s : ℕ) → s ≤ top → levelIn (heardOf s) ≤ 11709
+level-small s h = heard-cases (λ x. levelIn x ≤ 11709) s (λ k. omega arith) (λ k. omega (arith, level-below s 11710 k (omega (arith, loudest))))
+
+-- of any number of 64 bits
+pub level-any : (s : ℕ) → s < 2 ^ 64 → levelIn (heardOf s) < 20000
+level-any s h = heard-cases (λ x. levelIn x < 20000) s (λ k. omega arith) (λ k. omega (arith, level-below s 14000 k (omega (arith, energy-decade 14))))
+
+-- a period's energy is at most that of the loudest level with its addition
+pub lifted-most : (n s : ℕ) → s ≤ top → liftedOf n s ≤ energyOf (11709 + n)
+lifted-most n s h =
+    heard-cases (λ x. lift n x ≤ energyOf (11709 + n)) s (λ k. omega arith)
+    (λ k. energy-rises (levelOf s + n) (11709 + n) (omega (arith, level-below s 11710 k (omega (arith, loudest)))))
+
+-- and by day, where nothing is added, at most the sum itself
+pub lifted-day : (s : ℕ) → s ≤ top → liftedOf 0 s ≤ top
+lifted-day s h =
+    heard-cases (λ x. lift 0 x ≤ top) s (λ k. omega arith)
+    (λ k. let e : levelOf s + 0 ≡ levelOf s = omega arith in omega (arith, ap energyOf e, level-reached s k .has))

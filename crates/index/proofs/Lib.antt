@@ -1,0 +1,2 @@
+-- Bounds of the energies that the indices put together.
+pub mod Laws

@@ -1,0 +1,61 @@
+-- `lden` puts the three periods' energies together, which 64 bits hold. Assumes nothing.
+use mathlib.Core.Path.{_≡_, refl, sym, ap, ap₂, _∙_}
+use Prim.Native.Nat.{ℕ, _+_, _-_, _*_, _/_, _≤_, _<_}
+use native.Mathlib.Omega.{arith}
+use borrow.Author.Needs.{needs}
+use Rattle.level.specs.Level.{heardOf}
+use Rattle.index.specs.Index.{levelIn, tenthsOf}
+use Rattle.index.proofs.Laws.{level-any, lifted-most, lifted-day, evening-most, night-most}
+use Rattle.index.proofs.lden.Statement.{statement}
+use Rattle.index.proofs.lden.Tie as tie
+
+lifted-requires : tie.Need-lifted-requires
+lifted-requires c κs = search needs
+
+lifted-requires-2 : tie.Need-lifted-requires-2
+lifted-requires-2 c κs = search needs
+
+lifted-requires-3 : tie.Need-lifted-requires-3
+lifted-requires-3 c κs = search needs
+
+-- the three energies
+pub record Loud (a b c : ℕ) : Type 0 where
+  pub day : a ≤ 512000000000000000
+  pub evening : b ≤ 1618080000000000000
+  pub night : c ≤ 5116818000000000000
+
+loud : (c : tie.After-lifted3) → Loud (c .before .before .lifted .result) (c .before .lifted2 .result) (c .lifted3 .result)
+loud c =
+    let start = c .before .before .before in
+    let a = start .args in
+    record {
+      day = omega (arith, c .before .before .lifted .ensures, lifted-day (a .day) (start .pre .1));
+      evening = omega (arith, c .before .lifted2 .ensures, lifted-most 500 (a .evening) (start .pre .2), evening-most);
+      night = omega (arith, c .lifted3 .ensures, lifted-most 1000 (a .night) (start .pre .3), night-most);
+    }
+
+mul-mean : tie.Need-mul-mean
+mul-mean c = omega (arith, loud c)
+
+add-mean : tie.Need-add-mean
+add-mean c = omega (arith, loud c)
+
+mul-mean-2 : tie.Need-mul-mean-2
+mul-mean-2 c = omega (arith, loud c)
+
+add-mean-2 : tie.Need-add-mean-2
+add-mean-2 c = omega (arith, loud c)
+
+level-requires : tie.Need-level-requires
+level-requires c κs = search needs
+
+in-tenths-requires : tie.Need-in-tenths-requires
+in-tenths-requires c κs = rw (c .level .ensures) (level-any _ (omega (arith, loud (c .before))))
+
+returns : tie.Need-returns
+returns c =
+    let l = c .before .before in
+    c .in-tenths .ensures ∙ ap tenthsOf (c .before .level .ensures) ∙ (λ i. tenthsOf (heardOf ((3 * l .before .before .lifted .ensures i + l .before .lifted2 .ensures i + 2 * l .lifted3 .ensures i) / 6)))
+
+pub lden-spec : {M : Type 1} → statement M
+lden-spec = tie.close (tie.spec lifted-requires lifted-requires-2 lifted-requires-3 mul-mean add-mean mul-mean-2 add-mean-2 level-requires in-tenths-requires returns)

@@ -1,0 +1,55 @@
+// The two indices of a point, L_DEN and L_Night, from its three sums of energy (VBUS equation 2).
+// Both are told in tenths of a dB, or as quiet where there is no level.
+ghost use mathlib.Core.Path.{_≡_};
+ghost use Prim.Native.Nat.{_+_, _*_, _/_, _<_, _≤_};
+ghost use Rattle.level.specs.Table.{table};
+ghost use Rattle.index.specs.Index.{top, levelIn, tenthsOf, liftedOf, ldenOf, lnightOf};
+use level::Heard;
+
+// An index in tenths of a dB, or none.
+pub enum Index {
+    Quiet,
+    Tenths(u32),
+}
+
+// A level brought to tenths, half a tenth up.
+fn in_tenths(heard: Heard) -> Index
+    requires { ⌜ levelIn heard < 20000 ⌝ }
+    ensures { λ r. ⌜ r ≡ tenthsOf heard ⌝ }
+{
+    match heard {
+        Heard::Quiet => Index::Quiet,
+        Heard::Level(hundredths) => Index::Tenths((hundredths + 5) / 10),
+    }
+}
+
+// The energy of a sum's level with an addition to it; a quiet period brings nothing.
+fn lifted(steps: &[u32; 1000], sum: u64, addition: u32) -> u64
+    requires { ⌜ (now steps ≡ table) × (sum ≤ top) × (addition ≤ 1000) ⌝ }
+    ensures { λ r. ⌜ r ≡ liftedOf addition sum ⌝ }
+{
+    match level::level(steps, sum) {
+        Heard::Quiet => 0,
+        Heard::Level(hundredths) => level::energy(steps, hundredths + addition),
+    }
+}
+
+// L_Night: the level of the night's sum.
+pub fn lnight(steps: &[u32; 1000], night: u64) -> Index
+    requires { ⌜ now steps ≡ table ⌝ }
+    ensures { λ r. ⌜ r ≡ lnightOf night ⌝ }
+{
+    in_tenths(level::level(steps, night))
+}
+
+// L_DEN: twelve hours of day, four of evening with 5 dB more, eight of night with 10 dB more, as 3 to 1 to 2.
+pub fn lden(steps: &[u32; 1000], day: u64, evening: u64, night: u64) -> Index
+    requires { ⌜ (now steps ≡ table) × (day ≤ top) × (evening ≤ top) × (night ≤ top) ⌝ }
+    ensures { λ r. ⌜ r ≡ ldenOf day evening night ⌝ }
+{
+    let a = lifted(steps, day, 0);
+    let b = lifted(steps, evening, 500);
+    let c = lifted(steps, night, 1000);
+    let mean = (3 * a + b + 2 * c) / 6;
+    in_tenths(level::level(steps, mean))
+}

@@ -1,0 +1,79 @@
+// Compares the listings of a job program with the reference's, on jobs by chance.
+// Every job stands for a seed, and a seed alone with a count of 1 makes that job again.
+
+use reference::compare::{keep, order, output_of, refusal_counts, Order};
+use reference::fixed::fixed_jobs;
+use reference::jobs::job;
+use reference::listing::{list, Tally};
+use std::process::ExitCode;
+
+fn main() -> ExitCode {
+    let outcome = order("compare-jobs PROGRAM COUNT [SEED]").and_then(|order| compare(&order));
+    match outcome {
+        Ok(summary) => {
+            println!("{summary}");
+            ExitCode::SUCCESS
+        }
+        Err(report) => {
+            eprintln!("{report}");
+            ExitCode::FAILURE
+        }
+    }
+}
+
+fn compare(order: &Order) -> Result<String, String> {
+    let mut tally = Tally::default();
+    let fixed = fixed_jobs();
+    for (number, job) in fixed.iter().enumerate() {
+        tally.add(&compare_job(order, &format!("fixed-{number}"), job)?);
+    }
+    for seed in (order.seed..).take(order.count as usize) {
+        tally.add(&compare_job(order, &format!("seed-{seed}"), &job(seed))?);
+    }
+    Ok(format!(
+        "{} jobs and {} fixed ones agree: {} records, {} asks answered, refusals {}",
+        order.count,
+        fixed.len(),
+        tally.records,
+        tally.asks,
+        refusal_counts(&tally.refusals, 2)
+    ))
+}
+
+fn compare_job(order: &Order, name: &str, job: &[u8]) -> Result<Tally, String> {
+    let mut expected = Vec::new();
+    let tally = list(job, &mut expected);
+    let report = match output_of(&order.program, job) {
+        Ok(found) if found == expected => return Ok(tally),
+        Ok(found) => difference(&expected, &found),
+        Err(error) => error.to_string(),
+    };
+    let kept = match keep(&format!("{name}.job"), job) {
+        Ok(path) => format!("the job is kept as {}", path.display()),
+        Err(error) => format!("the job could not be kept: {error}"),
+    };
+    Err(format!("job {name} differs\n{report}\n{kept}"))
+}
+
+/// The first line in which two listings differ.
+fn difference(expected: &[u8], found: &[u8]) -> String {
+    let lines = |listing: &[u8]| -> Vec<String> {
+        let pieces = listing.split_inclusive(|&byte| byte == b'\n');
+        pieces
+            .map(|line| format!("{:?}", String::from_utf8_lossy(line)))
+            .collect()
+    };
+    let (expected, found) = (lines(expected), lines(found));
+    let same = expected
+        .iter()
+        .zip(&found)
+        .take_while(|(a, b)| a == b)
+        .count();
+    let line = |listing: &[String]| listing.get(same).cloned().unwrap_or("nothing".to_string());
+    format!(
+        "line {}: the reference has {}, the program {}",
+        same + 1,
+        line(&expected),
+        line(&found)
+    )
+}

@@ -1,0 +1,234 @@
+// The book: sources and receivers in their slots, and what each receiver has gathered.
+// A refused call changes nothing, so every call finds out all it needs before it writes.
+
+use crate::level::{energy, level};
+use crate::record::Record;
+use crate::road::{
+    emission, judge_receiver, judge_slot, judge_source, refusal, shares, Receiver, Refusal, Shares,
+    Source, RECEIVERS, SOURCES,
+};
+
+pub use crate::store::{decode, encode};
+
+/// The greatest sum a receiver may hold.
+pub const TOP: i64 = 512_000_000_000_000_000;
+
+/// A receiver in use, with its sums for day, evening and night.
+#[derive(Clone, Copy, Debug, PartialEq, Eq)]
+pub struct Account {
+    pub receiver: Receiver,
+    pub sums: Shares,
+}
+
+/// The book.
+#[derive(Clone, Debug, PartialEq, Eq)]
+pub struct Book {
+    pub sources: Vec<Option<Source>>,
+    pub accounts: Vec<Option<Account>>,
+}
+
+/// Both indices in tenths of a decibel; none is quiet.
+#[derive(Clone, Copy, Debug, PartialEq, Eq)]
+pub struct Levels {
+    pub den: Option<i64>,
+    pub night: Option<i64>,
+}
+
+/// What a call of the book answers.
+#[derive(Clone, Copy, Debug, PartialEq, Eq)]
+pub enum Answer {
+    Done,
+    Levels(Levels),
+    Refused(Refusal),
+}
+
+/// What one new or leaving source brings to every receiver slot.
+type Round = [Shares; RECEIVERS];
+
+const DAMAGED: Refusal = refusal(1);
+
+fn pair_refusal(number: u8, other: usize) -> Refusal {
+    Refusal {
+        number,
+        place: other as u16,
+    }
+}
+
+impl Default for Book {
+    fn default() -> Self {
+        Book::cleared()
+    }
+}
+
+impl Book {
+    /// A book with every slot unused.
+    pub fn cleared() -> Book {
+        Book {
+            sources: vec![None; SOURCES],
+            accounts: vec![None; RECEIVERS],
+        }
+    }
+
+    /// Shares of a source at every standing receiver, or the first refused pair.
+    fn round(&self, source: &Source) -> Result<Round, Refusal> {
+        let sent = emission(source);
+        let mut round = [[0; 3]; RECEIVERS];
+        for (slot, account) in self.accounts.iter().enumerate() {
+            if let Some(account) = account {
+                round[slot] = shares(source, &sent, &account.receiver)
+                    .map_err(|number| pair_refusal(number, slot))?;
+            }
+        }
+        Ok(round)
+    }
+
+    /// The sums after a change of every receiver's, or the late 1 if one leaves its bounds.
+    fn changed_sums(&self, round: &Round, sign: i64) -> Result<Round, Refusal> {
+        let mut sums = [[0; 3]; RECEIVERS];
+        for (slot, account) in self.accounts.iter().enumerate() {
+            let Some(account) = account else { continue };
+            for period in 0..3 {
+                let sum = account.sums[period] + sign * round[slot][period];
+                if !(0..=TOP).contains(&sum) {
+                    return Err(DAMAGED);
+                }
+                sums[slot][period] = sum;
+            }
+        }
+        Ok(sums)
+    }
+
+    fn set_sums(&mut self, sums: &Round) {
+        for (account, sums) in self.accounts.iter_mut().zip(sums) {
+            if let Some(account) = account {
+                account.sums = *sums;
+            }
+        }
+    }
+
+    pub fn place_source(&mut self, slot: i64, source: &Source) -> Result<(), Refusal> {
+        judge_slot(slot, SOURCES)?;
+        judge_source(source)?;
+        if self.sources[slot as usize].is_some() {
+            return Err(refusal(8));
+        }
+        let round = self.round(source)?;
+        let sums = self.changed_sums(&round, 1)?;
+        self.set_sums(&sums);
+        self.sources[slot as usize] = Some(*source);
+        Ok(())
+    }
+
+    pub fn withdraw_source(&mut self, slot: i64) -> Result<(), Refusal> {
+        judge_slot(slot, SOURCES)?;
+        let source = self.sources[slot as usize].ok_or(refusal(9))?;
+        let round = self.round(&source).map_err(|_| DAMAGED)?;
+        let sums = self.changed_sums(&round, -1)?;
+        self.set_sums(&sums);
+        self.sources[slot as usize] = None;
+        Ok(())
+    }
+
+    pub fn place_receiver(&mut self, slot: i64, receiver: &Receiver) -> Result<(), Refusal> {
+        judge_slot(slot, RECEIVERS)?;
+        judge_receiver(receiver)?;
+        if self.accounts[slot as usize].is_some() {
+            return Err(refusal(8));
+        }
+        let sums = self.gathered(receiver)?;
+        self.accounts[slot as usize] = Some(Account {
+            receiver: *receiver,
+            sums,
+        });
+        Ok(())
+    }
+
+    /// What all standing sources bring to a receiver, or the first refused pair.
+    fn gathered(&self, receiver: &Receiver) -> Result<Shares, Refusal> {
+        let mut sums = [0; 3];
+        for (slot, source) in self.sources.iter().enumerate() {
+            let Some(source) = source else { continue };
+            let sent = emission(source);
+            let brought =
+                shares(source, &sent, receiver).map_err(|number| pair_refusal(number, slot))?;
+            for (sum, share) in sums.iter_mut().zip(brought) {
+                *sum += share;
+            }
+        }
+        Ok(sums)
+    }
+
+    pub fn withdraw_receiver(&mut self, slot: i64) -> Result<(), Refusal> {
+        judge_slot(slot, RECEIVERS)?;
+        self.accounts[slot as usize].take().ok_or(refusal(9))?;
+        Ok(())
+    }
+
+    pub fn ask(&self, slot: i64) -> Result<Levels, Refusal> {
+        judge_slot(slot, RECEIVERS)?;
+        let account = self.accounts[slot as usize].as_ref().ok_or(refusal(9))?;
+        Ok(indices(&account.sums))
+    }
+
+    /// Does the call a record stands for.
+    pub fn apply(&mut self, record: &Record) -> Answer {
+        let outcome = match record {
+            Record::PlaceReceiver(slot, receiver) => self.place_receiver(*slot, receiver),
+            Record::WithdrawReceiver(slot) => self.withdraw_receiver(*slot),
+            Record::PlaceSource(slot, source) => self.place_source(*slot, source),
+            Record::WithdrawSource(slot) => self.withdraw_source(*slot),
+            Record::Ask(slot) => match self.ask(*slot) {
+                Ok(levels) => return Answer::Levels(levels),
+                Err(refusal) => Err(refusal),
+            },
+        };
+        outcome.map_or_else(Answer::Refused, |()| Answer::Done)
+    }
+}
+
+/// Both indices of three sums.
+pub fn indices(sums: &Shares) -> Levels {
+    Levels {
+        den: level(mean_energy(sums)).map(tenths),
+        night: level(sums[2]).map(tenths),
+    }
+}
+
+/// The energy of the whole day, of which evening and night weigh more than they last.
+pub fn mean_energy(sums: &Shares) -> i64 {
+    let [day, evening, night] = sums.map(level);
+    let a = weighted(day, 0);
+    let b = weighted(evening, 500);
+    let c = weighted(night, 1000);
+    (3 * a + b + 2 * c).div_euclid(6) as i64
+}
+
+/// The energy of a period's level with its addition; a quiet period brings nothing.
+fn weighted(level: Option<i64>, addition: i64) -> i128 {
+    level.map_or(0, |level| i128::from(energy(level + addition)))
+}
+
+fn tenths(level: i64) -> i64 {
+    (level + 5).div_euclid(10)
+}
+
+/// Clears a stored state; refusal 1 only for one of the wrong length.
+pub fn clear(image: &mut [u8]) -> Answer {
+    if image.len() != crate::store::LENGTH {
+        return Answer::Refused(DAMAGED);
+    }
+    image.fill(0);
+    Answer::Done
+}
+
+/// Does a record's call on a stored state, whose damage is looked for before all else.
+pub fn apply_stored(image: &mut [u8], record: &Record) -> Answer {
+    let Some(mut book) = decode(image) else {
+        return Answer::Refused(DAMAGED);
+    };
+    let answer = book.apply(record);
+    if answer == Answer::Done {
+        image.copy_from_slice(&encode(&book));
+    }
+    answer
+}

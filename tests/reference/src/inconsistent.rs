@@ -1,0 +1,308 @@
+// Stored states that are not damaged but that no history has, with the calls that meet this.
+// Also pairs just at the limits, where one step decides between two answers.
+
+use crate::book::{mean_energy, Account, Book, TOP};
+use crate::chance::Chance;
+use crate::level::{energy, level};
+use crate::limits::{loud_road, tuned, way_of_square, Way, FAR_STEPS, HALVES, NEAR_STEPS};
+use crate::probe::Frame;
+use crate::record::Record;
+use crate::road::{
+    emission, root, shares, Receiver, Source, Traffic, FARTHEST, FARTHEST_SQUARE, NEAREST_SQUARE,
+    RECEIVERS, SOURCES,
+};
+use crate::stores::{fitting_record, frame_of, settled, slot_in};
+use crate::town::{road, traffic, Town};
+
+/// What a source brings to a receiver; nothing where the pair is refused.
+fn brought(source: &Source, receiver: &Receiver) -> [i64; 3] {
+    shares(source, &emission(source), receiver).unwrap_or([0; 3])
+}
+
+/// Sums that leave room for a share more and a share less.
+fn ample(chance: &mut Chance) -> [i64; 3] {
+    [(); 3].map(|()| chance.between(TOP / 4, TOP / 2))
+}
+
+/// A sum just enough, or just not, for the share that a withdrawal takes off it.
+pub(crate) fn low_sum(chance: &mut Chance) -> Frame {
+    let (_, mut book) = settled(chance);
+    let leaving = slot_in(chance, &book.sources, true);
+    let source = book.sources[leaving].expect("the slot is in use");
+    let odds = chance.between(1, 8);
+    for account in book.accounts.iter_mut().flatten() {
+        let shares = brought(&source, &account.receiver);
+        let period = chance.index(3);
+        if chance.one_in(odds) {
+            account.sums[period] = (shares[period] + chance.pick(&[-1, 0, 0, 1])).max(0);
+        }
+    }
+    frame_of(&book, &Record::WithdrawSource(leaving as i64))
+}
+
+/// A sum just low enough, or just not, for the share that a new source adds to it;
+/// sometimes another receiver stands so near that this is said first.
+pub(crate) fn high_sum(chance: &mut Chance) -> Frame {
+    let (town, mut book) = settled(chance);
+    let slot = slot_in(chance, &book.sources, false);
+    let mut source = town.source(chance);
+    source.length = chance.between(1, 200);
+    let at = slot_in(chance, &book.accounts, true);
+    if let Some(account) = &mut book.accounts[at] {
+        let shares = brought(&source, &account.receiver);
+        let period = chance.index(3);
+        let excess = chance.between(-1, 1).min(shares[period]);
+        account.sums[period] = TOP - shares[period] + excess;
+    }
+    if chance.one_in(3) {
+        let other = slot_in(chance, &book.accounts, false);
+        let receiver = receiver_at(chance, &source, 200);
+        let sums = ample(chance);
+        book.accounts[other] = Some(Account { receiver, sums });
+    }
+    frame_of(&book, &Record::PlaceSource(slot as i64, source))
+}
+
+/// A distance at which a source of this length is too near, too far, too long or too loud,
+/// or at which it is mostly accepted.
+fn distance(chance: &mut Chance, length: i64, accepted: bool) -> i64 {
+    if accepted {
+        return chance.between(40_000, 130_000);
+    }
+    match chance.between(0, 3) {
+        0 => chance.between(0, 330),
+        1 => chance.between(200_000, 250_000),
+        2 => chance.between(400, 2 * length),
+        _ => 2 * length + chance.between(0, 60),
+    }
+}
+
+/// A step of this length on the map, in any direction.
+fn step(chance: &mut Chance, distance: i64) -> (i64, i64) {
+    let dx = chance.between(0, distance);
+    let dy = root(distance * distance - dx * dx);
+    (dx * chance.pick(&[-1, 1]), dy * chance.pick(&[-1, 1]))
+}
+
+fn receiver_at(chance: &mut Chance, source: &Source, distance: i64) -> Receiver {
+    let (dx, dy) = step(chance, distance);
+    Receiver {
+        x: (source.x + dx).clamp(0, FARTHEST),
+        y: (source.y + dy).clamp(0, FARTHEST),
+        height: chance.edge(380, 420),
+    }
+}
+
+/// A loud road with room around it and much traffic in one period at least.
+fn meeting_road(chance: &mut Chance) -> Source {
+    let mut source = loud_road(chance);
+    source.length = chance.between(250, 2500);
+    source.x = chance.between(300_000, FARTHEST - 300_000);
+    source.y = chance.between(300_000, FARTHEST - 300_000);
+    source.traffic = [(); 3].map(|()| traffic(chance));
+    source.traffic[chance.index(3)] = Traffic {
+        vehicles: chance.between(5_000_000, 10_000_000),
+        trucks: chance.between(500, 1000),
+    };
+    source
+}
+
+/// A pair that no history has, among others. The sums may be ample, so that they do not tell.
+pub(crate) fn bad_pair(chance: &mut Chance) -> Frame {
+    let (town, mut book) = settled(chance);
+    let slot = slot_in(chance, &book.accounts, true);
+    let at = slot_in(chance, &book.sources, true);
+    let old = book.sources[at].expect("the slot is in use");
+    let source = Source {
+        x: old.x,
+        y: old.y,
+        ..meeting_road(chance)
+    };
+    book.sources[at] = Some(source);
+    let way = distance(chance, source.length, false);
+    book.accounts[slot] = Some(Account {
+        receiver: receiver_at(chance, &source, way),
+        sums: ample(chance),
+    });
+    if !chance.one_in(4) {
+        for account in book.accounts.iter_mut().flatten() {
+            account.sums = ample(chance);
+        }
+    }
+    let record = match chance.between(0, 3) {
+        0 => fitting_record(chance, &town, &book),
+        _ => Record::WithdrawSource(at as i64),
+    };
+    frame_of(&book, &record)
+}
+
+/// A new source that meets a few receivers, of which some may refuse it.
+pub(crate) fn met_by_source(chance: &mut Chance) -> Frame {
+    let source = meeting_road(chance);
+    let mut book = Book::cleared();
+    for _ in 0..chance.between(1, 6) {
+        let accepted = chance.one_in(2);
+        let way = distance(chance, source.length, accepted);
+        let sums = if chance.one_in(5) {
+            [TOP; 3]
+        } else {
+            ample(chance)
+        };
+        book.accounts[chance.index(RECEIVERS)] = Some(Account {
+            receiver: receiver_at(chance, &source, way),
+            sums,
+        });
+    }
+    let slot = slot_in(chance, &book.sources, false);
+    frame_of(&book, &Record::PlaceSource(slot as i64, source))
+}
+
+/// A new receiver that meets a few sources, of which some may refuse it.
+pub(crate) fn met_by_receiver(chance: &mut Chance) -> Frame {
+    let here = meeting_road(chance);
+    let receiver = receiver_at(chance, &here, 100);
+    let odds = chance.between(2, 40);
+    let mut book = Book::cleared();
+    for _ in 0..chance.between(1, 30) {
+        let mut source = meeting_road(chance);
+        let accepted = !chance.one_in(odds);
+        let way = distance(chance, source.length, accepted);
+        let (dx, dy) = step(chance, way);
+        (source.x, source.y) = (receiver.x + dx, receiver.y + dy);
+        book.sources[chance.index(SOURCES)] = Some(source);
+    }
+    let slot = slot_in(chance, &book.accounts, false);
+    frame_of(&book, &Record::PlaceReceiver(slot as i64, receiver))
+}
+
+/// One pair in an otherwise empty book, the second party still to be placed, or the source
+/// to be withdrawn although the pair may be none that is accepted.
+fn lone_pair(chance: &mut Chance, receiver: Receiver, source: Source) -> Frame {
+    let mut book = Book::cleared();
+    let (r, s) = (chance.edge(0, 63), chance.edge(0, 511));
+    let sums = ample(chance);
+    let act = chance.between(0, 2);
+    if act != 0 {
+        book.accounts[r as usize] = Some(Account { receiver, sums });
+    }
+    if act != 1 {
+        book.sources[s as usize] = Some(source);
+    }
+    let record = match act {
+        0 => Record::PlaceReceiver(r, receiver),
+        1 => Record::PlaceSource(s, source),
+        _ => Record::WithdrawSource(s),
+    };
+    frame_of(&book, &record)
+}
+
+/// A squared distance just at a limit or as near to it as there is, and a length for it.
+fn tight_numbers(chance: &mut Chance) -> (i64, i64) {
+    let length = chance.between(1, 200);
+    match chance.between(0, 2) {
+        0 => (NEAREST_SQUARE + chance.pick(&NEAR_STEPS), length),
+        1 => (FARTHEST_SQUARE + chance.pick(&FAR_STEPS), length),
+        _ => {
+            let half = chance.pick(&HALVES);
+            (4 * half * half + chance.between(-1, 1), half)
+        }
+    }
+}
+
+/// A pair whose squared distance is just at a limit or one step beside it.
+pub(crate) fn tight_square(chance: &mut Chance) -> Frame {
+    let (square, length) = tight_numbers(chance);
+    let fallback = Way {
+        dx: 358,
+        dy: 0,
+        height: 400,
+    };
+    let way = way_of_square(chance, square).unwrap_or(fallback);
+    let receiver = way.receiver(chance);
+    let mut source = way.place(road(chance), &receiver);
+    source.length = length;
+    lone_pair(chance, receiver, source)
+}
+
+/// A pair of which one period's share level is just the loudest, or just above it.
+pub(crate) fn tight_level(chance: &mut Chance) -> Frame {
+    let road = loud_road(chance);
+    tuned_pair(chance, road, 600, [8500, 9001])
+}
+
+/// A pair of which one period's share level is just zero, or just below it.
+pub(crate) fn faint_level(chance: &mut Chance) -> Frame {
+    let mut road = road(chance);
+    road.length = chance.magnitude(180);
+    tuned_pair(chance, road, 140_000, [1, 0])
+}
+
+/// A pair tuned to the first level in two periods and to the second in the other one,
+/// each sometimes with a step of traffic less.
+fn tuned_pair(chance: &mut Chance, road: Source, farthest: i64, levels: [i64; 2]) -> Frame {
+    let way = Way {
+        dx: chance.between(360, farthest),
+        dy: chance.between(360, farthest),
+        height: chance.edge(380, 420),
+    };
+    let receiver = way.receiver(chance);
+    let mut source = way.place(road, &receiver);
+    let special = chance.index(3);
+    for period in 0..3 {
+        source.traffic[period] = traffic(chance);
+        let level = levels[usize::from(period == special)];
+        if let Some(vehicles) = tuned(&source, &receiver, period, level) {
+            source.traffic[period].vehicles = vehicles - chance.between(0, 1);
+        }
+    }
+    lone_pair(chance, receiver, source)
+}
+
+/// A sum worth asking for: at, just above or just below the energy of a level.
+fn telling_sum(chance: &mut Chance) -> i64 {
+    match chance.between(0, 5) {
+        0 => chance.pick(&[0, 1, 999_999, 1_000_000, 1_000_001, TOP - 1, TOP]),
+        1 => chance.magnitude(TOP),
+        2 => 0,
+        _ => energy(chance.between(0, 11_709)) + chance.between(-1, 1),
+    }
+}
+
+/// A question to a receiver whose sums are anything.
+pub(crate) fn asked(chance: &mut Chance) -> Frame {
+    let sums = [(); 3].map(|()| telling_sum(chance));
+    question(chance, sums)
+}
+
+/// A question about so little noise that the last unit of the mean decides on the tenths.
+pub(crate) fn barely_asked(chance: &mut Chance) -> Frame {
+    let mut sums = [0; 3];
+    for _ in 0..40_000 {
+        sums = [700, 400, 100].map(|most| match chance.between(0, 9) {
+            0 => 0,
+            _ => energy(chance.between(0, most)),
+        });
+        if on_the_edge(&sums) {
+            break;
+        }
+    }
+    question(chance, sums)
+}
+
+/// Whether one unit more or less of the mean energy changes the index in tenths.
+fn on_the_edge(sums: &[i64; 3]) -> bool {
+    let mean = mean_energy(sums);
+    let tenths = |energy| level(energy).map(|level| (level + 5) / 10);
+    tenths(mean - 1) != tenths(mean) || tenths(mean + 1) != tenths(mean)
+}
+
+fn question(chance: &mut Chance, sums: [i64; 3]) -> Frame {
+    let town = Town::anywhere(chance);
+    let mut book = Book::cleared();
+    let slot = chance.edge(0, 63);
+    book.accounts[slot as usize] = Some(Account {
+        receiver: town.receiver(chance),
+        sums,
+    });
+    frame_of(&book, &Record::Ask(slot))
+}

@@ -1,0 +1,401 @@
+// Jobs by chance, of many kinds: towns, jobs tight against each limit, broken jobs.
+// A seed stands for one job; its remainder by the number of kinds says which kind it is.
+
+use crate::chance::Chance;
+use crate::limits::{
+    loud_road, trial_values, tuned, way_of_square, Way, FAR_STEPS, HALVES, NEAR_STEPS,
+};
+use crate::record::{length_of, Record, SOURCE_BITS};
+use crate::road::{Receiver, Source, FARTHEST, FARTHEST_SQUARE, NEAREST_SQUARE};
+use crate::town::{road, traffic, Draft, Town};
+
+/// What makes one kind of job.
+type Maker = fn(&mut Chance) -> Vec<u8>;
+
+const KINDS: [Maker; 17] = [
+    town, churn, crowd, late, near, far, long, loud, faint, fields, terms, sweep, twins, flipped,
+    leftover, unknown, noise,
+];
+
+/// The job a seed stands for.
+pub fn job(seed: u64) -> Vec<u8> {
+    let kind = KINDS[(seed % KINDS.len() as u64) as usize];
+    kind(&mut Chance::new(seed))
+}
+
+/// A town in which every record is taken.
+fn town(chance: &mut Chance) -> Vec<u8> {
+    peaceful_town(chance, 600).bytes
+}
+
+fn peaceful_town(chance: &mut Chance, most: i64) -> Draft {
+    let town = Town::of_width(chance, 140_000);
+    let mut draft = Draft::default();
+    for _ in 0..chance.between(20, most) {
+        let record = town.record(chance, 200, 40);
+        draft.put_if_taken(record);
+    }
+    draft.ask_all(chance);
+    draft
+}
+
+/// Few slots and many records, so that most meet what stood before them.
+fn churn(chance: &mut Chance) -> Vec<u8> {
+    let town = Town::anywhere(chance);
+    let (sources, receivers) = (
+        chance.between(1, 12) as usize,
+        chance.between(1, 6) as usize,
+    );
+    let mut draft = Draft::default();
+    for _ in 0..chance.between(100, 4000) {
+        draft.put(town.record(chance, sources, receivers));
+    }
+    draft.bytes
+}
+
+/// Several hundred sources, and receivers in nearly all slots.
+fn crowd(chance: &mut Chance) -> Vec<u8> {
+    let town = Town::of_width(chance, 140_000);
+    let mut draft = Draft::default();
+    let sources = chance.edge(200, 512);
+    for slot in 0..sources.max(64) {
+        if slot < 64 {
+            draft.put_if_taken(Record::PlaceReceiver(slot, town.receiver(chance)));
+        }
+        if slot < sources {
+            draft.put_if_taken(Record::PlaceSource(slot, town.source(chance)));
+        }
+    }
+    draft.ask_all(chance);
+    for _ in 0..chance.between(0, 200) {
+        draft.put(town.record(chance, 512, 64));
+    }
+    draft.ask_all(chance);
+    draft.bytes
+}
+
+/// Receivers that come after the sources, go and come again.
+fn late(chance: &mut Chance) -> Vec<u8> {
+    let town = Town::of_width(chance, 140_000);
+    let mut draft = Draft::default();
+    for slot in 0..chance.between(1, 150) {
+        draft.put_if_taken(Record::PlaceSource(slot, town.source(chance)));
+    }
+    for _ in 0..chance.between(10, 120) {
+        let slot = chance.between(0, 9);
+        draft.put(Record::PlaceReceiver(slot, town.receiver(chance)));
+        draft.put(Record::Ask(slot));
+        if chance.one_in(2) {
+            draft.put(Record::WithdrawReceiver(slot));
+        }
+        if chance.one_in(3) {
+            draft.put(Record::WithdrawSource(chance.between(0, 149)));
+        }
+    }
+    draft.ask_all(chance);
+    draft.bytes
+}
+
+/// Puts a pair into slots of their own, in either order, asks and takes both away again.
+fn try_pair(draft: &mut Draft, chance: &mut Chance, receiver: Receiver, source: Source) {
+    let (r, s) = (chance.edge(0, 63), chance.edge(0, 511));
+    let (first, second) = if chance.one_in(2) {
+        (
+            Record::PlaceReceiver(r, receiver),
+            Record::PlaceSource(s, source),
+        )
+    } else {
+        (
+            Record::PlaceSource(s, source),
+            Record::PlaceReceiver(r, receiver),
+        )
+    };
+    draft.put(first);
+    draft.put(second);
+    draft.put(Record::Ask(r));
+    draft.put(Record::WithdrawSource(s));
+    draft.put(Record::Ask(r));
+    draft.put(Record::WithdrawReceiver(r));
+}
+
+fn try_square(draft: &mut Draft, chance: &mut Chance, square: i64, length: i64) {
+    if let Some(way) = way_of_square(chance, square) {
+        let receiver = way.receiver(chance);
+        let source = Source {
+            length,
+            ..road(chance)
+        };
+        try_pair(draft, chance, receiver, way.place(source, &receiver));
+    }
+}
+
+/// Squared distances around the nearest that is accepted.
+fn near(chance: &mut Chance) -> Vec<u8> {
+    let mut draft = Draft::default();
+    for _ in 0..40 {
+        let square = NEAREST_SQUARE + chance.pick(&NEAR_STEPS);
+        let length = chance.pick(&[1, 100, 249, 250, 251]);
+        try_square(&mut draft, chance, square, length);
+    }
+    for dx in [-358, -357, 0, 357, 358] {
+        let way = Way {
+            dx,
+            dy: 0,
+            height: 400,
+        };
+        let receiver = way.receiver(chance);
+        let source = Source {
+            length: 100,
+            ..road(chance)
+        };
+        try_pair(&mut draft, chance, receiver, way.place(source, &receiver));
+    }
+    draft.bytes
+}
+
+/// Squared distances around the farthest that is accepted, and from end to end of the map.
+fn far(chance: &mut Chance) -> Vec<u8> {
+    let mut draft = Draft::default();
+    for _ in 0..8 {
+        let square = FARTHEST_SQUARE + chance.pick(&FAR_STEPS);
+        let length = chance.pick(&[1, 5000, 99_999, 100_000]);
+        try_square(&mut draft, chance, square, length);
+    }
+    for (x, y) in [(0, 0), (FARTHEST, 0), (0, FARTHEST), (FARTHEST, FARTHEST)] {
+        let here = Receiver { x, y, height: 400 };
+        let there = Source {
+            x: FARTHEST - x,
+            y: chance.pick(&[0, FARTHEST]),
+            ..road(chance)
+        };
+        try_pair(&mut draft, chance, here, there);
+        let (x, y) = ((x - 9000).max(0), y);
+        try_pair(&mut draft, chance, here, Source { x, y, ..there });
+    }
+    draft.bytes
+}
+
+/// Lengths of just half the distance, and one step around it.
+fn long(chance: &mut Chance) -> Vec<u8> {
+    let mut draft = Draft::default();
+    for _ in 0..12 {
+        let length = chance.pick(&HALVES);
+        let square = 4 * length * length + chance.pick(&[-1, 0, 1]);
+        try_square(&mut draft, chance, square, length);
+    }
+    for length in [1261, 1262, 1263, 1264] {
+        let way = Way {
+            dx: chance.pick(&[2500, -2500]),
+            dy: 0,
+            height: 400,
+        };
+        let receiver = way.receiver(chance);
+        let source = Source {
+            length,
+            ..road(chance)
+        };
+        try_pair(&mut draft, chance, receiver, way.place(source, &receiver));
+    }
+    draft.bytes
+}
+
+/// A receiver and a way to a source, from the nearest to the given distance.
+fn some_way(chance: &mut Chance, farthest: i64) -> (Receiver, Way) {
+    let way = Way {
+        dx: chance.between(360, farthest) * chance.pick(&[-1, 1]),
+        dy: chance.between(360, farthest) * chance.pick(&[-1, 1]),
+        height: chance.edge(380, 420),
+    };
+    (way.receiver(chance), way)
+}
+
+/// Share levels around the loudest that is accepted, in one period or in all.
+fn loud(chance: &mut Chance) -> Vec<u8> {
+    let mut draft = Draft::default();
+    for _ in 0..60 {
+        let (receiver, way) = some_way(chance, 900);
+        let mut source = way.place(loud_road(chance), &receiver);
+        let special = chance.between(0, 3) as usize;
+        for period in 0..3 {
+            source.traffic[period] = traffic(chance);
+            let level = if period == special || special == 3 {
+                9001
+            } else {
+                8000
+            };
+            if let Some(vehicles) = tuned(&source, &receiver, period, level) {
+                source.traffic[period].vehicles = vehicles - chance.between(0, 1);
+            }
+        }
+        try_pair(&mut draft, chance, receiver, source);
+    }
+    draft.bytes
+}
+
+/// Share levels around zero, below which a source adds nothing.
+fn faint(chance: &mut Chance) -> Vec<u8> {
+    let mut draft = Draft::default();
+    for _ in 0..80 {
+        let (receiver, way) = some_way(chance, 140_000);
+        let mut source = way.place(road(chance), &receiver);
+        source.length = chance.magnitude(300);
+        for period in 0..3 {
+            let level = chance.pick(&[-1, 0, 0, 1, 2, 700]);
+            let vehicles = tuned(&source, &receiver, period, level).unwrap_or(0);
+            source.traffic[period].vehicles = chance.pick(&[vehicles, vehicles, 0]);
+        }
+        try_pair(&mut draft, chance, receiver, source);
+    }
+    draft.bytes
+}
+
+/// Every field at its limits and one step beyond, of sources and of receivers.
+fn fields(chance: &mut Chance) -> Vec<u8> {
+    let mut draft = Draft::default();
+    let (receiver, way) = some_way(chance, 20_000);
+    draft.put(Record::PlaceReceiver(0, receiver));
+    let base = way.place(road(chance), &receiver);
+    for (number, bits) in (2u16..).zip(SOURCE_BITS.into_iter().skip(1)) {
+        for value in trial_values(chance, number, bits) {
+            let mut values = base.fields();
+            values[usize::from(number) - 2] = value;
+            try_source(&mut draft, Source::of_fields(values));
+        }
+    }
+    for height in [0, 1, 379, 380, 381, 419, 420, 421, 511] {
+        try_receiver(&mut draft, Receiver { height, ..receiver });
+        let (x, y) = (chance.edge(0, FARTHEST), chance.edge(0, FARTHEST));
+        try_receiver(&mut draft, Receiver { x, y, height });
+    }
+    draft.bytes
+}
+
+/// Adds a source that may not be allowed, asks and takes it away.
+fn try_source(draft: &mut Draft, source: Source) {
+    draft.put(Record::PlaceSource(0, source));
+    draft.put(Record::Ask(0));
+    draft.put(Record::WithdrawSource(0));
+}
+
+fn try_receiver(draft: &mut Draft, receiver: Receiver) {
+    draft.put(Record::PlaceReceiver(1, receiver));
+    draft.put(Record::Ask(1));
+    draft.put(Record::WithdrawReceiver(1));
+}
+
+/// One road after the other before one receiver, each with every field anew.
+fn terms(chance: &mut Chance) -> Vec<u8> {
+    let mut draft = Draft::default();
+    let mut farthest = 400;
+    while farthest < 140_000 {
+        let (receiver, way) = some_way(chance, farthest);
+        draft.put(Record::PlaceReceiver(0, receiver));
+        for _ in 0..20 {
+            try_source(&mut draft, way.place(road(chance), &receiver));
+        }
+        draft.put(Record::WithdrawReceiver(0));
+        farthest += farthest / 4;
+    }
+    draft.bytes
+}
+
+/// One field run through its values, the others held.
+fn sweep(chance: &mut Chance) -> Vec<u8> {
+    let mut draft = Draft::default();
+    let (receiver, way) = some_way(chance, 9_000);
+    draft.put(Record::PlaceReceiver(0, receiver));
+    for _ in 0..4 {
+        let base = way.place(road(chance), &receiver);
+        let at = chance.between(2, 17) as usize;
+        let most = (1 << SOURCE_BITS[at + 1]) - 1;
+        for turn in 0..=255.min(most) {
+            let mut values = base.fields();
+            values[at] = if most > 255 {
+                chance.magnitude(most)
+            } else {
+                turn
+            };
+            try_source(&mut draft, Source::of_fields(values));
+        }
+    }
+    draft.bytes
+}
+
+/// Equal sources in many slots, which all count, taken away one by one.
+fn twins(chance: &mut Chance) -> Vec<u8> {
+    let mut draft = Draft::default();
+    let (receiver, way) = some_way(chance, 30_000);
+    let source = way.place(road(chance), &receiver);
+    draft.put(Record::PlaceReceiver(9, receiver));
+    let first = chance.between(0, 480);
+    let last = first + chance.between(1, 31);
+    for slot in first..=last {
+        draft.put(Record::PlaceSource(slot, source));
+        draft.put(Record::Ask(9));
+    }
+    draft.put(Record::PlaceReceiver(8, receiver));
+    draft.put(Record::Ask(8));
+    for slot in first..=last {
+        draft.put(Record::WithdrawSource(slot));
+        draft.put(Record::Ask(9));
+    }
+    draft.bytes
+}
+
+/// A town's job with some bits turned, anywhere or within the fields only.
+fn flipped(chance: &mut Chance) -> Vec<u8> {
+    let mut draft = peaceful_town(chance, 200);
+    let anywhere = chance.one_in(3);
+    for _ in 0..chance.between(1, 60) {
+        let at = chance.index(draft.bytes.len());
+        let kind_here = draft.starts.binary_search(&at).is_ok();
+        let bits = if kind_here && !anywhere { 4 } else { 8 };
+        draft.bytes[at] ^= 1 << chance.index(bits);
+    }
+    draft.bytes
+}
+
+/// A town's job in which leftover bits are set here and there.
+fn leftover(chance: &mut Chance) -> Vec<u8> {
+    let mut draft = peaceful_town(chance, 200);
+    for &start in &draft.starts {
+        let kind = draft.bytes[start] >> 4;
+        let spare = [0, 5, 6, 0, 3, 6][usize::from(kind)];
+        let length = length_of(kind).unwrap_or(1);
+        if spare > 0 && chance.one_in(4) {
+            draft.bytes[start + length - 1] |= 1 << chance.index(spare);
+        }
+    }
+    draft.bytes
+}
+
+/// A town's job with a kind that is not listed, or broken off within a record.
+fn unknown(chance: &mut Chance) -> Vec<u8> {
+    let mut draft = peaceful_town(chance, 60);
+    if chance.one_in(2) {
+        let at = chance.pick(&draft.starts);
+        let kind = chance.pick(&[0, 6, 7, 8, 9, 10, 11, 12, 13, 14, 15]);
+        draft.bytes[at] = (kind << 4) | (draft.bytes[at] & 15);
+    } else {
+        let whole = draft.bytes.len();
+        draft.bytes.truncate(chance.index(whole));
+    }
+    draft.bytes
+}
+
+/// Bytes by chance, the first of each few of a listed kind.
+fn noise(chance: &mut Chance) -> Vec<u8> {
+    let tame = chance.between(0, 3);
+    let mut bytes = Vec::new();
+    for _ in 0..chance.between(0, 40) {
+        let kind = match chance.between(0, tame) {
+            0 => chance.between(0, 15),
+            _ => chance.between(1, 5),
+        };
+        bytes.push((kind << 4) as u8 | chance.between(0, 15) as u8);
+        for _ in 1..length_of(kind as u8).unwrap_or(1) {
+            bytes.push(chance.draw() as u8 & chance.draw() as u8);
+        }
+    }
+    bytes
+}

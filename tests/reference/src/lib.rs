@@ -1,0 +1,20 @@
+// The reference of the road-noise book: the rules worked a second time, in plain Rust.
+// It exists to be compared with the book itself, so nothing here is shared with it.
+
+pub mod book;
+pub mod chance;
+pub mod compare;
+pub mod fixed;
+mod inconsistent;
+pub mod jobs;
+pub mod level;
+pub mod limits;
+pub mod listing;
+#[cfg(test)]
+mod power;
+pub mod probe;
+pub mod record;
+pub mod road;
+pub mod store;
+pub mod stores;
+pub mod town;

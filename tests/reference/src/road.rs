@@ -1,0 +1,405 @@
+// Sources and receivers: their fields, which of them are allowed, and every term of the method.
+// Lengths are whole centimetres, levels whole hundredths of a decibel, all in signed 64 bits.
+
+use crate::level::{energy, lv};
+
+/// A number for the caller, with the field or slot it speaks of (0 where there is none).
+#[derive(Clone, Copy, Debug, PartialEq, Eq)]
+pub struct Refusal {
+    pub number: u8,
+    pub place: u16,
+}
+
+/// A refusal that names no field and no slot.
+pub const fn refusal(number: u8) -> Refusal {
+    Refusal { number, place: 0 }
+}
+
+/// Traffic of one period: M in thousandths of a vehicle per hour, p in tenths of a percent.
+#[derive(Clone, Copy, Debug, Default, PartialEq, Eq)]
+pub struct Traffic {
+    pub vehicles: i64,
+    pub trucks: i64,
+}
+
+/// One straight piece of road, its slot apart. The gradient is held as it is coded.
+#[derive(Clone, Copy, Debug, Default, PartialEq, Eq)]
+pub struct Source {
+    pub x: i64,
+    pub y: i64,
+    pub length: i64,
+    pub several_lanes: i64,
+    pub car_speed: i64,
+    pub truck_speed: i64,
+    pub surface: i64,
+    pub gradient: i64,
+    pub reflection: i64,
+    pub walls: i64,
+    pub wall_height: i64,
+    pub wall_spacing: i64,
+    pub traffic: [Traffic; 3],
+}
+
+/// A point at which levels are asked for, its slot apart.
+#[derive(Clone, Copy, Debug, Default, PartialEq, Eq)]
+pub struct Receiver {
+    pub x: i64,
+    pub y: i64,
+    pub height: i64,
+}
+
+/// Slots of the book.
+pub const SOURCES: usize = 512;
+pub const RECEIVERS: usize = 64;
+
+/// The greatest value of a coordinate.
+pub const FARTHEST: i64 = (1 << 24) - 1;
+
+/// In a coded gradient, the bit that says downhill.
+pub const MINUS: i64 = 128;
+
+/// The loudest share level that is accepted.
+pub const LOUDEST: i64 = 9000;
+
+/// Height of a source above the road.
+const SOURCE_HEIGHT: i64 = 50;
+
+/// Squared distances between which a pair is accepted.
+pub const NEAREST_SQUARE: i64 = 250_000;
+pub const FARTHEST_SQUARE: i64 = 40_000_000_000;
+
+/// The correction for the weather by day, evening and night.
+const WEATHER: [i64; 3] = [200, 100, 0];
+
+/// The correction for the surfaces 1 to 9, below 40, below 50 and from 50 km/h.
+const SURFACES: [[i64; 3]; 9] = [
+    [0, 0, 0],
+    [100, 150, 200],
+    [200, 250, 300],
+    [300, 450, 600],
+    [100, 100, 100],
+    [-200, -200, -200],
+    [-200, -200, -200],
+    [-400, -400, -400],
+    [-500, -500, -500],
+];
+
+const REFLECTIONS: [i64; 5] = [0, -100, -200, -400, -800];
+
+impl Source {
+    /// The fields 2 to 19, in their order.
+    pub fn fields(&self) -> [i64; 18] {
+        let [day, evening, night] = self.traffic;
+        [
+            self.x,
+            self.y,
+            self.length,
+            self.several_lanes,
+            self.car_speed,
+            self.truck_speed,
+            self.surface,
+            self.gradient,
+            self.reflection,
+            self.walls,
+            self.wall_height,
+            self.wall_spacing,
+            day.vehicles,
+            day.trucks,
+            evening.vehicles,
+            evening.trucks,
+            night.vehicles,
+            night.trucks,
+        ]
+    }
+
+    /// A source from its fields 2 to 19.
+    pub fn of_fields(f: [i64; 18]) -> Source {
+        let period = |at: usize| Traffic {
+            vehicles: f[at],
+            trucks: f[at + 1],
+        };
+        Source {
+            x: f[0],
+            y: f[1],
+            length: f[2],
+            several_lanes: f[3],
+            car_speed: f[4],
+            truck_speed: f[5],
+            surface: f[6],
+            gradient: f[7],
+            reflection: f[8],
+            walls: f[9],
+            wall_height: f[10],
+            wall_spacing: f[11],
+            traffic: [period(12), period(14), period(16)],
+        }
+    }
+
+    fn bounded_car_speed(&self) -> i64 {
+        self.car_speed.clamp(30, 130)
+    }
+
+    fn bounded_truck_speed(&self) -> i64 {
+        self.truck_speed.clamp(30, 80)
+    }
+
+    /// The first of the fields 2 to 19 that is not allowed.
+    fn first_wrong_field(&self) -> Option<u16> {
+        let fields = self.fields();
+        (2..).zip(fields).find_map(|(number, value)| {
+            let allowed = match number {
+                9 => gradient_allowed(value),
+                12 => self.wall_size_allowed(value, 4000),
+                13 => self.wall_size_allowed(value, 16383),
+                _ => within(plain_limits(number), value),
+            };
+            (!allowed).then_some(number)
+        })
+    }
+
+    fn wall_size_allowed(&self, size: i64, most: i64) -> bool {
+        if self.walls == 0 {
+            size == 0
+        } else {
+            within((1, most), size)
+        }
+    }
+}
+
+fn within((least, most): (i64, i64), value: i64) -> bool {
+    least <= value && value <= most
+}
+
+fn gradient_allowed(code: i64) -> bool {
+    within((0, 120), code) || within((MINUS + 1, MINUS + 120), code)
+}
+
+/// Least and greatest value of a source field that does not hang on another one.
+pub fn plain_limits(number: u16) -> (i64, i64) {
+    match number {
+        2 | 3 => (0, FARTHEST),
+        4 => (1, 100_000),
+        5 => (0, 1),
+        6 | 7 => (1, 250),
+        8 => (1, 9),
+        10 => (0, 4),
+        11 => (0, 3),
+        14 | 16 | 18 => (0, 10_000_000),
+        15 | 17 | 19 => (0, 1000),
+        _ => panic!("field {number} has no limits of its own"),
+    }
+}
+
+fn wrong_field(place: u16) -> Refusal {
+    Refusal { number: 5, place }
+}
+
+/// Judges a slot number against the number of slots.
+pub fn judge_slot(slot: i64, slots: usize) -> Result<(), Refusal> {
+    if within((0, slots as i64 - 1), slot) {
+        Ok(())
+    } else {
+        Err(wrong_field(1))
+    }
+}
+
+/// Judges the fields 2 to 19 of a source: refusals 5, 6 and 7.
+pub fn judge_source(source: &Source) -> Result<(), Refusal> {
+    if let Some(place) = source.first_wrong_field() {
+        return Err(wrong_field(place));
+    }
+    if source.surface >= 5 && source.car_speed <= 60 {
+        return Err(refusal(6));
+    }
+    if truck_excess(source) < 0 {
+        return Err(refusal(7));
+    }
+    Ok(())
+}
+
+/// Judges the fields 2 to 4 of a receiver: refusal 5.
+pub fn judge_receiver(receiver: &Receiver) -> Result<(), Refusal> {
+    let limits = [(0, FARTHEST), (0, FARTHEST), (380, 420)];
+    let fields = [receiver.x, receiver.y, receiver.height];
+    for ((place, value), limit) in (2..).zip(fields).zip(limits) {
+        if !within(limit, value) {
+            return Err(wrong_field(place));
+        }
+    }
+    Ok(())
+}
+
+/// L25 of one period; none where nothing drives.
+pub fn traffic_term(traffic: Traffic, several_lanes: bool) -> Option<i64> {
+    let n = traffic.vehicles * (10_000 + 82 * traffic.trucks);
+    if n == 0 {
+        return None;
+    }
+    Some(if several_lanes {
+        3730 + lv(5 * n) - 8000
+    } else {
+        3730 + lv(n) - 7000
+    })
+}
+
+/// LP, the level of one car.
+pub fn car_level(source: &Source) -> i64 {
+    let v = source.bounded_car_speed();
+    2770 + lv(1_000_000 + 8 * v * v * v) - 6000
+}
+
+/// LT, the level of one truck.
+pub fn truck_level(source: &Source) -> i64 {
+    let u = source.bounded_truck_speed();
+    2310 + lv(u.pow(5)).div_euclid(4)
+}
+
+/// D, by how much a truck is louder than a car.
+pub fn truck_excess(source: &Source) -> i64 {
+    truck_level(source) - car_level(source)
+}
+
+/// Dv for a share of trucks, from LP and D, which must not be negative.
+pub fn speed_term(car: i64, excess: i64, trucks: i64) -> i64 {
+    let mixed = 1_000_000_000 + (energy(excess) - 1_000_000) * trucks;
+    car - 3730 + lv(mixed) - lv(100_000 + 823 * trucks) - 4000
+}
+
+/// The correction for the surface at the speed of the cars.
+pub fn surface_term(source: &Source) -> i64 {
+    let column = match source.bounded_car_speed() {
+        ..40 => 0,
+        40..50 => 1,
+        _ => 2,
+    };
+    SURFACES[source.surface as usize - 1][column]
+}
+
+/// The addition for a steep road, uphill or downhill.
+pub fn gradient_term(code: i64) -> i64 {
+    let steepness = code % MINUS;
+    if steepness > 50 {
+        6 * steepness - 300
+    } else {
+        0
+    }
+}
+
+/// The addition for parallel walls.
+pub fn wall_term(source: &Source) -> i64 {
+    let (height, spacing) = (source.wall_height, source.wall_spacing);
+    match source.walls {
+        1 => (400 * height).div_euclid(spacing).min(320),
+        2 => (200 * height).div_euclid(spacing).min(160),
+        _ => 0,
+    }
+}
+
+/// The correction for the length of a piece.
+pub fn length_term(length: i64) -> i64 {
+    lv(length) - 2000
+}
+
+/// Ds for a squared distance and its root.
+pub fn distance_term(square: i64, root: i64) -> i64 {
+    lv(square) - 4000 + root.div_euclid(200) - 1120
+}
+
+/// What the ground takes, for the sum H of both heights and the distance.
+pub fn ground_term(heights: i64, root: i64) -> i64 {
+    let taken = (heights * (1700 * root + 3_000_000)).div_euclid(root * root);
+    (480 - taken).max(0)
+}
+
+/// The correction for the weather, for its strength C, H and the distance on the map.
+pub fn weather_term(strength: i64, heights: i64, root: i64) -> i64 {
+    if root <= 10 * heights {
+        return 0;
+    }
+    -(strength * (root - 10 * heights)).div_euclid(root)
+}
+
+/// The whole root of a whole number, down.
+pub fn root(square: i64) -> i64 {
+    let mut guess = (square as f64).sqrt() as i64;
+    while guess * guess > square {
+        guess -= 1;
+    }
+    while (guess + 1) * (guess + 1) <= square {
+        guess += 1;
+    }
+    guess
+}
+
+/// Levels by day, evening and night; none where nothing drives.
+pub type PeriodLevels = [Option<i64>; 3];
+
+/// What a source sends out, whoever hears it: every term that hangs on the source alone.
+pub fn emission(source: &Source) -> PeriodLevels {
+    let car = car_level(source);
+    let excess = truck_level(source) - car;
+    let fixed = surface_term(source)
+        + gradient_term(source.gradient)
+        + REFLECTIONS[source.reflection as usize]
+        + length_term(source.length)
+        + wall_term(source);
+    source.traffic.map(|traffic| {
+        let l25 = traffic_term(traffic, source.several_lanes == 1)?;
+        Some(l25 + speed_term(car, excess, traffic.trucks) + fixed)
+    })
+}
+
+/// The squared distances between source and receiver: on the map and in space.
+pub fn squares(source: &Source, receiver: &Receiver) -> (i64, i64) {
+    let (dx, dy) = (source.x - receiver.x, source.y - receiver.y);
+    let on_map = dx * dx + dy * dy;
+    let rise = receiver.height - SOURCE_HEIGHT;
+    (on_map, on_map + rise * rise)
+}
+
+/// Judges how source and receiver lie to each other: refusals 10, 11 and 12.
+fn judge_way(length: i64, square: i64) -> Result<(), u8> {
+    if square < NEAREST_SQUARE {
+        return Err(10);
+    }
+    if square > FARTHEST_SQUARE {
+        return Err(11);
+    }
+    if 4 * length * length > square {
+        return Err(12);
+    }
+    Ok(())
+}
+
+/// The share levels of an accepted way, for the three periods.
+pub fn share_levels(source: &Source, sent: &PeriodLevels, receiver: &Receiver) -> PeriodLevels {
+    let (on_map, in_space) = squares(source, receiver);
+    let heights = receiver.height + SOURCE_HEIGHT;
+    let far = root(in_space);
+    let lost = distance_term(in_space, far) + ground_term(heights, far);
+    let map_way = root(on_map);
+    std::array::from_fn(|period| {
+        let weather = weather_term(WEATHER[period], heights, map_way);
+        sent[period].map(|level| level - lost + weather)
+    })
+}
+
+/// Energies of day, evening and night.
+pub type Shares = [i64; 3];
+
+fn share(level: Option<i64>) -> i64 {
+    match level {
+        Some(level) if level >= 0 => energy(level),
+        _ => 0,
+    }
+}
+
+/// What a source brings to a receiver, or the refusal of the pair, 10 to 13.
+pub fn shares(source: &Source, sent: &PeriodLevels, receiver: &Receiver) -> Result<Shares, u8> {
+    judge_way(source.length, squares(source, receiver).1)?;
+    let levels = share_levels(source, sent, receiver);
+    if levels.iter().flatten().any(|&level| level > LOUDEST) {
+        return Err(13);
+    }
+    Ok(levels.map(share))
+}

@@ -1,0 +1,194 @@
+// Towns by chance: roads and receivers with every allowed value of every field.
+// A town is a square of a certain size somewhere on the map.
+
+use crate::book::{Answer, Book};
+use crate::chance::Chance;
+use crate::record::Record;
+use crate::road::{Receiver, Source, Traffic, FARTHEST, MINUS, RECEIVERS, SOURCES};
+
+/// Speeds at which something changes, for cars and for trucks.
+const TURNING_SPEEDS: [i64; 18] = [
+    1, 29, 30, 31, 39, 40, 41, 49, 50, 60, 61, 79, 80, 81, 129, 130, 131, 250,
+];
+
+/// Where a town lies and how wide it is.
+#[derive(Clone, Copy)]
+pub struct Town {
+    pub x: i64,
+    pub y: i64,
+    pub width: i64,
+}
+
+impl Town {
+    /// A town of a width by chance, anywhere on the map.
+    pub fn anywhere(chance: &mut Chance) -> Town {
+        let width = chance.pick(&[2_000, 10_000, 40_000, 140_000, 140_000, 400_000]);
+        Town::of_width(chance, width)
+    }
+
+    pub fn of_width(chance: &mut Chance, width: i64) -> Town {
+        Town {
+            x: chance.edge(0, FARTHEST - width),
+            y: chance.edge(0, FARTHEST - width),
+            width,
+        }
+    }
+
+    fn spot(&self, chance: &mut Chance) -> (i64, i64) {
+        let x = self.x + chance.edge(0, self.width);
+        let y = self.y + chance.between(0, self.width);
+        (x, y)
+    }
+
+    pub fn receiver(&self, chance: &mut Chance) -> Receiver {
+        let (x, y) = self.spot(chance);
+        let height = chance.edge(380, 420);
+        Receiver { x, y, height }
+    }
+
+    pub fn source(&self, chance: &mut Chance) -> Source {
+        let (x, y) = self.spot(chance);
+        Source {
+            x,
+            y,
+            ..road(chance)
+        }
+    }
+
+    /// A record of any kind, on slots below the given counts.
+    pub fn record(&self, chance: &mut Chance, sources: usize, receivers: usize) -> Record {
+        let source_slot = slot(chance, sources, SOURCES);
+        let receiver_slot = slot(chance, receivers, RECEIVERS);
+        match chance.between(0, 19) {
+            0..=2 => Record::PlaceReceiver(receiver_slot, self.receiver(chance)),
+            3 => Record::WithdrawReceiver(receiver_slot),
+            4..=12 => Record::PlaceSource(source_slot, self.source(chance)),
+            13..=14 => Record::WithdrawSource(source_slot),
+            _ => Record::Ask(receiver_slot),
+        }
+    }
+
+    /// A book with some history in this town.
+    pub fn history(&self, chance: &mut Chance, records: i64) -> Book {
+        let mut book = Book::cleared();
+        for _ in 0..records {
+            book.apply(&self.record(chance, SOURCES, RECEIVERS));
+        }
+        book
+    }
+}
+
+/// A slot below a count, seldom the last there is.
+fn slot(chance: &mut Chance, count: usize, all: usize) -> i64 {
+    if chance.one_in(16) {
+        all as i64 - 1
+    } else {
+        chance.index(count) as i64
+    }
+}
+
+fn speed(chance: &mut Chance) -> i64 {
+    if chance.one_in(2) {
+        chance.pick(&TURNING_SPEEDS)
+    } else {
+        chance.between(1, 250)
+    }
+}
+
+fn gradient(chance: &mut Chance) -> i64 {
+    let steepness = if chance.one_in(2) {
+        chance.pick(&[0, 1, 49, 50, 51, 52, 119, 120])
+    } else {
+        chance.between(0, 120)
+    };
+    if steepness > 0 && chance.one_in(2) {
+        steepness + MINUS
+    } else {
+        steepness
+    }
+}
+
+/// Traffic of one period; sometimes none at all, sometimes as much as there can be.
+pub fn traffic(chance: &mut Chance) -> Traffic {
+    let vehicles = match chance.between(0, 9) {
+        0 => 0,
+        1 => 10_000_000,
+        2..=4 => chance.magnitude(10_000_000),
+        _ => chance.between(1_000, 4_000_000),
+    };
+    let trucks = chance.edge(0, 1000);
+    Traffic { vehicles, trucks }
+}
+
+fn walls(chance: &mut Chance) -> (i64, i64, i64) {
+    let kind = chance.between(0, 3);
+    let sizes = match (kind, chance.between(0, 3)) {
+        (0, _) => (0, 0),
+        (_, 0) => (chance.edge(1, 4000), chance.edge(1, 16383)),
+        _ => (chance.between(1, 1500), chance.between(800, 4000)),
+    };
+    (kind, sizes.0, sizes.1)
+}
+
+/// An allowed road at no place in particular.
+pub fn road(chance: &mut Chance) -> Source {
+    let car_speed = speed(chance);
+    let surfaces = if car_speed > 60 { 9 } else { 4 };
+    let (walls, wall_height, wall_spacing) = walls(chance);
+    Source {
+        x: 0,
+        y: 0,
+        length: chance.magnitude(6000),
+        several_lanes: chance.between(0, 1),
+        car_speed,
+        truck_speed: speed(chance),
+        surface: chance.between(1, surfaces),
+        gradient: gradient(chance),
+        reflection: chance.between(0, 4),
+        walls,
+        wall_height,
+        wall_spacing,
+        traffic: std::array::from_fn(|_| traffic(chance)),
+    }
+}
+
+/// A job in the making, with the book as it stands after it.
+#[derive(Default)]
+pub struct Draft {
+    pub bytes: Vec<u8>,
+    pub starts: Vec<usize>,
+    pub book: Book,
+}
+
+impl Draft {
+    /// Adds a record whatever the book says to it.
+    pub fn put(&mut self, record: Record) -> Answer {
+        let answer = self.book.apply(&record);
+        self.add(record);
+        answer
+    }
+
+    /// Adds a record only if the book takes it.
+    pub fn put_if_taken(&mut self, record: Record) -> bool {
+        let taken = !matches!(self.book.apply(&record), Answer::Refused(_));
+        if taken {
+            self.add(record);
+        }
+        taken
+    }
+
+    fn add(&mut self, record: Record) {
+        self.starts.push(self.bytes.len());
+        self.bytes.extend(record.bytes());
+    }
+
+    /// Asks every receiver that stands, and one that may not.
+    pub fn ask_all(&mut self, chance: &mut Chance) {
+        for slot in 0..RECEIVERS {
+            if self.book.accounts[slot].is_some() {
+                self.put(Record::Ask(slot as i64));
+            }
+        }
+        self.put(Record::Ask(chance.between(0, 63)));
+    }
+}
