@@ -15,6 +15,9 @@ times a b c d h l = mul-le-mul h l
 pub lv-small : (n : ℕ) → 1 ≤ n → n ≤ 18446744073709 → lvOf n < 14000
 lv-small n h l = lv-most 14 n h (omega arith)
 
+pub lv-told : (r n : ℕ) → r ≡ lvOf n → 1 ≤ n → n ≤ 18446744073709 → r < 14000
+lv-told r n e h l = omega (arith, lv-small n h l)
+
 pub record Cube (v : ℕ) : Type 0 where
   pub two : v * v ≤ 16900
   pub three : v * v * v ≤ 2197000

@@ -108,7 +108,7 @@ pub fn pace_of(steps: &[u32; 1000], s: Source) -> Pace
 }
 
 // Equation 9: speed.
-fn speed(steps: &[u32; 1000], pace: Pace, p: u16) -> Term
+pub fn speed(steps: &[u32; 1000], pace: Pace, p: u16) -> Term
     requires { ⌜ (now steps ≡ table) × (pace .car ≤ 20000) × (pace .gain < 1000000000) × (p ≤ 1000) ⌝ }
     ensures { λ r. ⌜ r ≡ speedBy pace p ⌝ }
 {
@@ -147,7 +147,7 @@ fn surface(kind: u8, v: u64) -> Term
 }
 
 // Section 3.5.4: gradient.
-fn gradient(g: u8) -> u32
+pub fn gradient(g: u8) -> u32
     ensures { λ r. ⌜ r ≡ gradientTerm g .up ⌝ }
 {
     let steep = (g % 128) as u32;
@@ -166,7 +166,7 @@ fn reflection(code: u8) -> u32
 }
 
 // Equations 13 and 14: parallel walls.
-fn walls(kind: u8, height: u16, spacing: u16) -> u32
+pub fn walls(kind: u8, height: u16, spacing: u16) -> u32
     requires { ⌜ ((kind ≡ 0 → ⊥) → 1 ≤ spacing) ⌝ }
     ensures { λ r. ⌜ r ≡ wallsTerm kind height spacing .up ⌝ }
 {

@@ -7,10 +7,11 @@ use crate::emission;
 use answer::Refusal;
 ghost use mathlib.Core.Path.{_≡_};
 ghost use mathlib.Core.Bool.{cond};
-ghost use Prim.Native.Nat.{_≤_, _<_};
+ghost use Prim.Native.Nat.{_+_, _≤_, _<_};
 ghost use Rattle.level.specs.Table.{table};
 ghost use Rattle.road.specs.Judge.{sourceFields, sourceLeast, sourceMost, receiverFields, receiverLeast, receiverMost, sourceVerdict, receiverVerdict, slotVerdict, slowSurface, quietTruck, lastSource, lastReceiver};
-ghost use Rattle.road.specs.declared.Verdict.the-variants.{Allowed};
+ghost use Rattle.answer.specs.declared.Refusal.the-variants.{Field};
+ghost use Rattle.road.specs.declared.Verdict.the-variants.{Refused};
 
 // The fields of a source from field 2 on.
 fn source_fields(s: Source) -> [u64; 18]
@@ -84,6 +85,7 @@ fn source_least(s: Source) -> [u64; 18]
 fn source_most(s: Source) -> [u64; 18]
     ensures { λ r. ⌜ r ≡ sourceMost s ⌝ }
 {
+    let truck = 250;
     let gradient = either(s.gradient < 128, 120, 248);
     let height = either(s.walls == 0, 0, 4000);
     let spacing = either(s.walls == 0, 0, 16383);
@@ -93,7 +95,7 @@ fn source_most(s: Source) -> [u64; 18]
         100000,
         1,
         250,
-        250,
+        truck,
         9,
         gradient,
         4,
@@ -119,6 +121,15 @@ fn quiet_truck(steps: &[u32; 1000], s: Source) -> bool
     truck < car
 }
 
+// The refusal of a field by its place in a list: the first there is field 2.
+fn outside(at: usize) -> Verdict
+    requires { ⌜ at < 100 ⌝ }
+    ensures { λ v. ⌜ v ≡ Refused (Field (2 + at)) ⌝ }
+{
+    let field = 2 + at as u16;
+    Verdict::Refused(Refusal::Field(field))
+}
+
 // Whether the fields of a source are allowed.
 pub fn judge_source(steps: &[u32; 1000], s: Source) -> Verdict
     requires { ⌜ now steps ≡ table ⌝ }
@@ -129,7 +140,7 @@ pub fn judge_source(steps: &[u32; 1000], s: Source) -> Verdict
     let most = source_most(s);
     let at = layout::first_outside(&least, &most, &fields);
     if at < 18 {
-        return Verdict::Refused(Refusal::Field(2 + at as u16));
+        return outside(at);
     }
     if (5 <= s.surface) & (emission::within(30, 130, s.car as u64) <= 60) {
         return Verdict::Refused(Refusal::SlowSurface);
@@ -149,7 +160,7 @@ pub fn judge_receiver(r: Receiver) -> Verdict
     let most = [16777215u64, 16777215, 420];
     let at = layout::first_outside(&least, &most, &fields);
     if at < 3 {
-        return Verdict::Refused(Refusal::Field(2 + at as u16));
+        return outside(at);
     }
     Verdict::Allowed
 }

@@ -14,7 +14,7 @@ ghost use Rattle.level.specs.Table.{table};
 ghost use Rattle.root.specs.Root.{rootOf};
 ghost use Rattle.road.specs.declared.Verdict.the-variants.{Allowed};
 ghost use Rattle.road.specs.Term.{takes, _⊕_};
-ghost use Rattle.road.specs.Reach.{apart, planSquare, distanceTerm, groundTerm, weatherTerm, pairOf};
+ghost use Rattle.road.specs.Reach.{apart, square, planSquare, distanceTerm, groundTerm, weatherTerm, pairOf};
 ghost use Rattle.road.specs.Judge.{sourceVerdict, receiverVerdict};
 ghost use Rattle.road.specs.Inner.{voicesOf, partOf, hearOf, Modest, Moderate};
 
@@ -35,7 +35,7 @@ fn apart(a: u32, b: u32) -> u64
 }
 
 // The squared distance in the plan.
-fn plan(s: Source, r: Receiver) -> u64
+pub fn plan(s: Source, r: Receiver) -> u64
     requires { ⌜ (s .x < 16777216) × (s .y < 16777216) × (r .x < 16777216) × (r .y < 16777216) ⌝ }
     ensures { λ q. ⌜ q ≡ planSquare s r ⌝ }
 {
@@ -46,8 +46,18 @@ fn plan(s: Source, r: Receiver) -> u64
     across + along
 }
 
+// The squared distance in space, by that in the plan and the point's height: the source is 50 cm above the road.
+pub fn space(q0: u64, height: u16) -> u64
+    requires { ⌜ (q0 ≤ 600000000000000) × (50 ≤ height) × (height ≤ 1000) ⌝ }
+    ensures { λ q. ⌜ q ≡ q0 + square (height - 50) ⌝ }
+{
+    let rise = (height - 50) as u64;
+    let square = rise * rise;
+    q0 + square
+}
+
 // Equations 11 and 12: what the ground takes off.
-fn ground(h: u64, r: u64) -> u32
+pub fn ground(h: u64, r: u64) -> u32
     requires { ⌜ (h ≤ 1000) × (1 ≤ r) × (r ≤ 1000000) ⌝ }
     ensures { λ d. ⌜ d ≡ groundTerm h r .down ⌝ }
 {
@@ -61,7 +71,7 @@ fn ground(h: u64, r: u64) -> u32
 }
 
 // Equations 10 to 12: distance, air and ground, by the squared distance and its root.
-fn way(steps: &[u32; 1000], q: u64, r: u64, h: u64) -> Term
+pub fn way(steps: &[u32; 1000], q: u64, r: u64, h: u64) -> Term
     requires { ⌜ (now steps ≡ table) × (1 ≤ q) × (q ≤ 40000000000) × (h ≤ 1000) × (1 ≤ r) × (r ≤ 1000000) ⌝ }
     ensures { λ t. ⌜ t ≡ distanceTerm q r ⊕ groundTerm h r ⌝ }
 {
@@ -145,8 +155,7 @@ pub fn pair(steps: &[u32; 1000], s: Source, voices: [Voice; 3], r: Receiver) -> 
     ensures { λ p. ⌜ p ≡ pairOf s r ⌝ }
 {
     let q0 = plan(s, r);
-    let rise = (r.height - 50) as u64;
-    let q = q0 + rise * rise;
+    let q = space(q0, r.height);
     if q < 250000 {
         return Pair::Barred(Bar::Near);
     }

@@ -1,6 +1,7 @@
 -- `gradient` adds from 51 tenths on. Assumes nothing.
 use mathlib.Core.Path.{_≡_, refl, sym, ap, ap₂, _∙_}
 use Prim.Native.Nat.{ℕ, _-_, _*_, _%_}
+use native.Mathlib.Omega.{arith}
 use borrow.Author.Needs.{needs}
 use mathlib.Core.Bool.{cond}
 use lib.Dec.{ltb}
@@ -20,11 +21,11 @@ sub-result c = search needs
 
 returns : tie.Need-returns
 unfolding gradientTerm
-returns c = simp (lt-ltb 50 (c .before .args .g % 128) (c .if1 .taken))
+returns c = simp (lt-ltb 50 (c .before .args .g % 128) (omega arith))
 
 returns-2 : tie.Need-returns-2
 unfolding gradientTerm
-returns-2 c = simp (le-ltb 50 (c .before .args .g % 128) (c .if1 .left))
+returns-2 c = simp (le-ltb 50 (c .before .args .g % 128) (omega arith))
 
 pub gradient-spec : {M : Type 1} → statement M
 gradient-spec = tie.close (tie.spec cast-steep mul-result sub-result returns returns-2)

@@ -7,7 +7,7 @@ use lib.Dec.{eqb}
 use borrow.Author.Tests.{eq-eqb, ne-eqb}
 use Rattle.road.specs.Term.{term}
 use Rattle.road.specs.Emission.{vehicles, trafficTerm}
-use Rattle.road.proofs.Bounds.{lv-small}
+use Rattle.road.proofs.Bounds.{lv-told}
 use Rattle.road.proofs.Sums.{weighed}
 use Rattle.road.proofs.emission.traffic.Statement.{statement}
 use Rattle.road.proofs.emission.traffic.Tie as tie
@@ -48,7 +48,7 @@ add-half c =
     let start = c .before .before .before .before in
     let p = start .pre in
     let w = weighed (start .args .t) (p .1) (p .2) (p .3) in
-    omega (arith, c .lv .ensures, lv-small (5 * vehicles (start .args .t)) (omega (arith, w .some)) (omega (arith, w .half)))
+    omega (arith, lv-told _ _ (c .lv .ensures) (omega (arith, w .some)) (omega (arith, w .half)))
 
 returns : tie.Need-returns
 unfolding trafficTerm
@@ -66,7 +66,7 @@ add-whole c =
     let start = c .before .before .before .before in
     let p = start .pre in
     let w = weighed (start .args .t) (p .1) (p .2) (p .3) in
-    omega (arith, c .lv2 .ensures, lv-small (vehicles (start .args .t)) (w .some) (omega (arith, w .half)))
+    omega (arith, lv-told _ _ (c .lv2 .ensures) (w .some) (omega (arith, w .half)))
 
 returns-2 : tie.Need-returns-2
 unfolding trafficTerm

@@ -14,7 +14,7 @@ use Rattle.road.proofs.emission.voice.Statement.{statement}
 use Rattle.road.proofs.emission.voice.Tie as tie
 
 returns : tie.Need-returns
-returns c = rw (eq-eqb (c .before .before .args .t .m) 0 (c .if1 .taken))
+returns c = rw (eq-eqb (c .before .before .args .t .m) 0 (omega arith))
 
 traffic-requires : tie.Need-traffic-requires
 traffic-requires c κs = search needs

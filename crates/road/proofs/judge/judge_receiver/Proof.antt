@@ -1,5 +1,6 @@
 -- `judge_receiver` refuses the first field outside its limits.
 -- Assumes nothing.
+use mathlib.Core.Path.{_∙_}
 use Rattle.road.specs.Judge.{receiverVerdict, receiverFields, receiverLeast, receiverMost}
 use Rattle.road.specs.declared.Verdict.the-variants.{Allowed}
 use Rattle.road.proofs.Judged.{outside, inside}
@@ -28,18 +29,16 @@ slice-aggregate-first-outside-3 c = search needs
 first-outside-requires : tie.Need-first-outside-requires
 first-outside-requires c κs = search needs
 
-cast-t16 : tie.Need-cast-t16
-cast-t16 c = search needs
-
-add-t17 : tie.Need-add-t17
-add-t17 c = search needs
+outside-requires : tie.Need-outside-requires
+outside-requires c κs = search needs
 
 returns : tie.Need-returns
 unfolding receiverVerdict
 returns c =
-    let r = c .before .before .before .before .before .before .before .before .args .r in
-    outside receiverLeast receiverMost (receiverFields r) Allowed (c .before .first-outside .result)
-    (c .before .first-outside .ensures) (c .if1 .taken)
+    let r = c .before .before .before .before .before .before .before .before .before .args .r in
+    c .outside .ensures
+    ∙ outside receiverLeast receiverMost (receiverFields r) Allowed (c .before .before .first-outside .result)
+    (c .before .before .first-outside .ensures) (c .before .if1 .taken)
 
 returns-2 : tie.Need-returns-2
 unfolding receiverVerdict
@@ -59,7 +58,6 @@ judge-receiver-spec =
     slice-aggregate-first-outside-2
     slice-aggregate-first-outside-3
     first-outside-requires
-    cast-t16
-    add-t17
+    outside-requires
     returns
     returns-2)

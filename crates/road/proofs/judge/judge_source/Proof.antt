@@ -2,13 +2,16 @@
 -- Assumes nothing.
 use mathlib.Core.Path.{_≡_, refl, sym, ap, _∙_}
 use mathlib.Core.Bool.{Bool, true, false, _&&_, cond}
-use Prim.Native.Nat.{ℕ}
+use Prim.Native.Nat.{ℕ, _≤_}
+use native.Mathlib.Omega.{arith}
 use lib.Dec.{leb}
+use borrow.Author.Tests.{leb-true, le-leb}
 use Rattle.layout.specs.Bounds.{firstOutside}
 use Rattle.answer.specs.declared.Refusal.the-variants.{SlowSurface, QuietTruck}
 use Rattle.road.specs.declared.Source.{Source}
 use Rattle.road.specs.declared.Verdict.{Verdict}
 use Rattle.road.specs.declared.Verdict.the-variants.{Allowed, Refused}
+use Rattle.road.specs.Emission.{carSpeed}
 use Rattle.road.specs.Judge.{sourceFields, sourceLeast, sourceMost, slowSurface, quietTruck, sourceVerdict}
 use Rattle.road.proofs.Judged.{outside, inside}
 use borrow.Author.Needs.{needs}
@@ -23,6 +26,18 @@ rest s = cond (slowSurface s) (Refused SlowSurface) (cond (quietTruck s) (Refuse
 choose : (s : Source) (a b : Bool) → slowSurface s ≡ a → quietTruck s ≡ b
     → cond a (Refused SlowSurface) (cond b (Refused QuietTruck) Allowed) ≡ rest s
 choose s a b e f = sym (λ i. cond (e i) (Refused SlowSurface) (cond (f i) (Refused QuietTruck) Allowed))
+
+-- what the test of surface and speed tells, and what makes the surface slow
+tested : (k v n : ℕ) → (leb 5 k && leb v n) ≡ true → (5 ≤ k) × (v ≤ n)
+tested k v n e = go (leb 5 k) (leb v n) refl refl e
+  where
+    go : (a b : Bool) → leb 5 k ≡ a → leb v n ≡ b → (a && b) ≡ true → (5 ≤ k) × (v ≤ n)
+    go true true f g h = (leb-true 5 k f, leb-true v n g)
+    go true false f g h = absurd (let z : _≡_ {A = ℕ} 0 1 = cc in omega arith)
+    go false b f g h = absurd (let z : _≡_ {A = ℕ} 0 1 = cc in omega arith)
+
+slow-at : (k v : ℕ) → 5 ≤ k → v ≤ 60 → (leb 5 k && leb v 60) ≡ true
+slow-at k v h l = rw (le-leb 5 k h, le-leb v 60 l)
 
 source-fields-requires : tie.Need-source-fields-requires
 source-fields-requires c κs = search needs
@@ -45,20 +60,18 @@ slice-aggregate-first-outside-3 c = search needs
 first-outside-requires : tie.Need-first-outside-requires
 first-outside-requires c κs = search needs
 
-cast-t15 : tie.Need-cast-t15
-cast-t15 c = search needs
-
-add-t16 : tie.Need-add-t16
-add-t16 c = search needs
+outside-requires : tie.Need-outside-requires
+outside-requires c κs = search needs
 
 returns : tie.Need-returns
 unfolding sourceVerdict
 returns c =
-    let s = c .before .before .before .before .before .before .before .before .args .s in
-    let e : c .before .first-outside .result ≡ firstOutside (sourceLeast s) (sourceMost s) (sourceFields s) =
-    c .before .first-outside .ensures
-    ∙ (λ i. firstOutside (c .before .before .before .before .before .before .source-least .ensures i) (c .before .before .before .before .before .source-most .ensures i) (c .before .before .before .before .before .before .before .source-fields .ensures i)) in
-    outside (sourceLeast s) (sourceMost s) (sourceFields s) (rest s) (c .before .first-outside .result) e (c .if1 .taken)
+    let s = c .before .before .before .before .before .before .before .before .before .args .s in
+    let e : c .before .before .first-outside .result ≡ firstOutside (sourceLeast s) (sourceMost s) (sourceFields s) =
+    c .before .before .first-outside .ensures
+    ∙ (λ i. firstOutside (c .before .before .before .before .before .before .before .source-least .ensures i) (c .before .before .before .before .before .before .source-most .ensures i) (c .before .before .before .before .before .before .before .before .source-fields .ensures i)) in
+    c .outside .ensures
+    ∙ outside (sourceLeast s) (sourceMost s) (sourceFields s) (rest s) (c .before .before .first-outside .result) e (c .before .if1 .taken)
 
 cast-within : tie.Need-cast-within
 cast-within c = search needs
@@ -73,7 +86,8 @@ returns-2 c =
     let e : c .before .before .before .before .before .first-outside .result ≡ firstOutside (sourceLeast s) (sourceMost s) (sourceFields s) =
     c .before .before .before .before .before .first-outside .ensures
     ∙ (λ i. firstOutside (c .before .before .before .before .before .before .before .before .before .before .source-least .ensures i) (c .before .before .before .before .before .before .before .before .before .source-most .ensures i) (c .before .before .before .before .before .before .before .before .before .before .before .source-fields .ensures i)) in
-    let slow : slowSurface s ≡ true = ap (λ (x : ℕ). leb 5 (s .surface) && leb x 60) (sym (c .before .within .ensures)) ∙ c .if2 .taken in
+    let t = tested (s .surface) (c .before .within .result) _ (c .if2 .taken) in
+    let slow : slowSurface s ≡ true = slow-at (s .surface) (carSpeed (s .car)) (t .0) (omega (arith, t .1, c .before .within .ensures)) in
     choose s true (quietTruck s) slow refl ∙ inside (sourceLeast s) (sourceMost s) (sourceFields s) (rest s) (c .before .before .before .before .before .first-outside .result) e (c .before .before .before .before .if1 .left)
 
 quiet-truck-requires : tie.Need-quiet-truck-requires
@@ -112,8 +126,7 @@ judge-source-spec =
     slice-aggregate-first-outside-2
     slice-aggregate-first-outside-3
     first-outside-requires
-    cast-t15
-    add-t16
+    outside-requires
     returns
     cast-within
     within-requires

@@ -24,12 +24,6 @@ receiver c = fit-receiver (c .args .r) (c .pre .3)
 plan-requires : tie.Need-plan-requires
 plan-requires c κs = let s = source c in let r = receiver c in (omega (arith, s .x), omega (arith, s .y), omega (arith, r .x), omega (arith, r .y))
 
-sub-rise : tie.Need-sub-rise
-sub-rise c = omega (arith, receiver (c .before .before) .low)
-
-cast-rise : tie.Need-cast-rise
-cast-rise c = search needs
-
 -- the rise is up to 370, and its square up to 136900; the squares of coordinates are below 2^49
 rise : (c : tie.Start) → square (c .args .r .height - 50) ≤ 136900
 rise c = times (c .args .r .height - 50) (c .args .r .height - 50) 370 370 (omega (arith, receiver c .high)) (omega (arith, receiver c .high))
@@ -46,27 +40,29 @@ plan-small c =
     let q : y * y ≤ 16777216 * 16777216 = times y y 16777216 16777216 (omega (arith, s .y, r .y)) (omega (arith, s .y, r .y)) in
     omega arith
 
-mul-q : tie.Need-mul-q
-mul-q c = omega (arith, rise (c .before .before))
-
-add-q : tie.Need-add-q
-add-q c = omega (arith, rise (c .before .before), plan-small (c .before .before), c .before .plan .ensures)
+space-requires : tie.Need-space-requires
+space-requires c κs =
+    let start = c .before in
+    (omega (arith, plan-small start, c .plan .ensures), omega (arith, receiver start .low), omega (arith, receiver start .high))
 
 -- the squared distance that was worked out is the definition's
-space : (c : tie.After-plan) → c .plan .result + square (c .before .args .r .height - 50) ≡ spaceSquare (c .before .args .s) (c .before .args .r)
+abbrev begun : tie.After-space → tie.Start
+begun c = c .before .before
+
+space : (c : tie.After-space) → c .space .result ≡ spaceSquare (begun c .args .s) (begun c .args .r)
 unfolding spaceSquare
-space c = ap (λ (n : ℕ). n + square (c .before .args .r .height - 50)) (c .plan .ensures)
+space c = c .space .ensures ∙ ap (λ (n : ℕ). n + square (begun c .args .r .height - 50)) (c .before .plan .ensures)
 
 returns : tie.Need-returns
 returns c =
-    let p = c .before .before in
-    let a = p .before .args in
+    let p = c .before in
+    let a = begun p .args in
     sym (pair-near (a .s) (a .r) (omega (arith, space p, c .if1 .taken)))
 
 returns-2 : tie.Need-returns-2
 returns-2 c =
-    let p = c .before .before .before in
-    let a = p .before .args in
+    let p = c .before .before in
+    let a = begun p .args in
     sym (pair-far (a .s) (a .r) (omega (arith, space p, c .if2 .taken)))
 
 cast-long : tie.Need-cast-long
@@ -83,8 +79,8 @@ mul-if3 c = omega (arith, long (c .before .before .before .before .before))
 
 returns-3 : tie.Need-returns-3
 returns-3 c =
-    let p = c .before .before .before .before .before in
-    let a = p .before .args in
+    let p = c .before .before .before .before in
+    let a = begun p .args in
     sym (pair-long (a .s) (a .r) (omega (arith, space p, c .before .before .before .if1 .left)) (omega (arith, space p, c .before .before .if2 .left)) (omega (arith, space p, c .if3 .taken)))
 
 add-h : tie.Need-add-h
@@ -95,24 +91,24 @@ cast-h c = search needs
 
 hear-requires : tie.Need-hear-requires
 hear-requires c κs =
-    let p = c .before .before .before .before .before .before in
-    let start = p .before in
+    let p = c .before .before .before .before .before in
+    let start = begun p in
     let f = start .pre in
     let near = c .before .before .before .before .if1 .left in
     let far = c .before .before .before .if2 .left in
-    (f .0, rw (f .2) (moderate (start .args .s) (source start)), omega (arith, near, rise start), omega arith, omega (arith, far), omega (arith, receiver start .high))
+    (f .0, rw (f .2) (moderate (start .args .s) (source start)), omega (arith, near, rise start, p .space .ensures), omega (arith, p .space .ensures), omega (arith, far), omega (arith, receiver start .high))
 
 returns-4 : tie.Need-returns-4
 returns-4 c =
-    let p = c .before .before .before .before .before .before .before in
-    let start = p .before in
+    let p = c .before .before .before .before .before .before in
+    let start = begun p in
     let a = start .args in
     let vs = start .pre .2 in
     let near = c .before .before .before .before .before .if1 .left in
     let far = c .before .before .before .before .if2 .left in
     let short = c .before .before .if3 .left in
-    c .hear .ensures ∙ (λ i. hearOf (vs i) (p .plan .ensures i) (space p i) (rayHeight (a .r)))
+    c .hear .ensures ∙ (λ i. hearOf (vs i) (p .before .plan .ensures i) (space p i) (rayHeight (a .r)))
     ∙ sym (pair-within (a .s) (a .r) (omega (arith, space p, near)) (omega (arith, space p, far)) (omega (arith, space p, short)))
 
 pub pair-spec : {M : Type 1} → statement M
-pair-spec = tie.close (tie.spec plan-requires sub-rise cast-rise mul-q add-q returns returns-2 cast-long mul-square mul-if3 returns-3 add-h cast-h hear-requires returns-4)
+pair-spec = tie.close (tie.spec plan-requires space-requires returns returns-2 cast-long mul-square mul-if3 returns-3 add-h cast-h hear-requires returns-4)

@@ -16,7 +16,7 @@ mul-if1 c = search needs
 
 returns : tie.Need-returns
 unfolding weatherTerm
-returns c = simp (le-leb _ _ (c .if1 .taken))
+returns c = let a = c .before .args in simp (le-leb (a .near) (10 * a .h) (omega arith))
 
 mul-beyond : tie.Need-mul-beyond
 mul-beyond c = search needs
@@ -43,7 +43,7 @@ cast-result c =
 
 returns-2 : tie.Need-returns-2
 unfolding weatherTerm
-returns-2 c = simp (lt-leb _ _ (c .if1 .left))
+returns-2 c = let a = c .before .args in simp (lt-leb (a .near) (10 * a .h) (omega arith))
 
 pub weather-spec : {M : Type 1} → statement M
 weather-spec = tie.close (tie.spec mul-if1 returns mul-beyond sub-beyond mul-beyond-2 div-result cast-result returns-2)

@@ -1,0 +1,61 @@
+-- `meet` hears a road that is allowed as its pair with the point is heard.
+-- Assumes nothing.
+use mathlib.Core.Path.{_≡_, refl, sym, ap, _∙_}
+use Prim.Native.Nat.{ℕ}
+use native.Mathlib.Omega.{arith}
+use Rattle.road.specs.declared.Verdict.the-variants.{Allowed}
+use Rattle.road.specs.Judge.{receiverVerdict}
+use Rattle.road.specs.Reach.{pairOf}
+use Rattle.road.specs.Figures.{home}
+use borrow.Author.Needs.{needs}
+use Rattle.figures.proofs.cases.meet.Statement.{statement}
+use Rattle.figures.proofs.cases.meet.Tie as tie
+
+home-allowed : receiverVerdict home ≡ Allowed
+unfolding receiverVerdict
+home-allowed = refl
+
+judge-source-requires : tie.Need-judge-source-requires
+judge-source-requires c κs = search needs
+
+enum-known-why : tie.Need-enum-known-why
+enum-known-why c = search needs
+
+enum-told : tie.Need-enum-told
+enum-told c = search needs
+
+voices-requires : tie.Need-voices-requires
+voices-requires c κs = (c .before .before .before .pre, sym (c .before .before .judge-source .ensures) ∙ c .enum-told .given .1)
+
+point-requires : tie.Need-point-requires
+point-requires c κs = search needs
+
+pair-requires : tie.Need-pair-requires
+pair-requires c κs =
+    let judged = c .before .before .before .before in
+    (judged .before .pre, sym (judged .judge-source .ensures) ∙ c .before .before .enum-told .given .1, c .before .voices .ensures, ap receiverVerdict (c .point .ensures) ∙ home-allowed)
+
+told-requires : tie.Need-told-requires
+told-requires c κs = search needs
+
+returns : tie.Need-returns
+returns c = λ h e. absurd (let z : _≡_ {A = ℕ} 0 1 = cc in omega arith)
+
+returns-2 : tie.Need-returns-2
+returns-2 c =
+    let s = c .before .before .before .before .before .before .before .args .s in
+    λ h e. sym (c .before .pair .ensures ∙ ap (pairOf s) (c .before .before .point .ensures)) ∙ c .told .ensures h e
+
+pub meet-spec : {M : Type 1} → statement M
+meet-spec =
+    tie.close
+    (tie.spec
+    judge-source-requires
+    enum-known-why
+    enum-told
+    voices-requires
+    point-requires
+    pair-requires
+    told-requires
+    returns
+    returns-2)

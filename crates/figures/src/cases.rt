@@ -1,0 +1,201 @@
+// The 25 m case and its neighbours: a road that passes a point, whole.
+// The point is at (100000, 100000); the road lies east of it.
+use crate::print;
+use answer::Refusal;
+use road::Bar;
+use road::Pair;
+use road::Receiver;
+use road::Shares;
+use road::Source;
+use road::Term;
+use road::Traffic;
+use road::Verdict;
+use road::emission;
+use road::judge;
+use road::reach;
+ghost use mathlib.Core.Path.{_≡_};
+ghost use Prim.Native.Nat.{_≤_};
+ghost use Rattle.level.specs.Table.{table};
+ghost use Rattle.road.specs.declared.Shares.{Shares};
+ghost use Rattle.road.specs.declared.Pair.the-variants.{Heard};
+ghost use Rattle.road.specs.Reach.{pairOf};
+ghost use Rattle.road.specs.Figures.{home};
+
+// What a road and a point make, or why they are refused.
+enum Outcome {
+    Told(Shares),
+    Refused(Refusal),
+}
+
+// The point.
+fn point() -> Receiver
+    ensures { λ r. ⌜ r ≡ home ⌝ }
+{
+    Receiver {
+        x: 100000,
+        y: 100000,
+        height: 400,
+    }
+}
+
+// The road, with its middle at x and of some length.
+fn street(x: u32, length: u32) -> Source
+    ensures { λ s. ⌜ (s .x ≡ x) × (s .y ≡ 100000) ⌝ }
+{
+    let busy = Traffic { m: 1000000, p: 0 };
+    let late = Traffic { m: 100000, p: 0 };
+    Source {
+        x: x,
+        y: 100000,
+        length: length,
+        lanes: 0,
+        car: 100,
+        truck: 80,
+        surface: 1,
+        gradient: 0,
+        reflection: 0,
+        walls: 0,
+        height: 0,
+        spacing: 0,
+        traffic: [busy, busy, late],
+    }
+}
+
+// Squared distance, distance, and what distance and ground take off. H is 450, twice the mean height of the ray.
+fn way(steps: &[u32; 1000], of: &[u8], x: u32)
+    requires { ⌜ (now steps ≡ table) × (100000 ≤ x) × (x ≤ 110000) ⌝ }
+{
+    let r = point();
+    let q = reach::space(reach::plan(street(x, 1000), r), r.height);
+    let far = root::root(q);
+    let ground = reach::ground(450, far);
+    let way = reach::way(steps, q, far, 450);
+    let other = way.up + ground;
+    let distance = Term {
+        up: way.down,
+        down: other,
+    };
+    print::number(of, b"Q ", q);
+    print::number(of, b"r ", far);
+    print::level(of, b"Ds ", distance);
+    print::number(of, b"ground ", ground as u64);
+}
+
+// The refusal of a pair that is barred, with the slot 0.
+fn barred(bar: Bar) -> Refusal {
+    match bar {
+        Bar::Near => Refusal::TooNear(0),
+        Bar::Far => Refusal::TooFar(0),
+        Bar::Long => Refusal::TooLong(0),
+        Bar::Loud => Refusal::TooLoud(0),
+    }
+}
+
+// A pair as an outcome.
+fn told(p: Pair) -> Outcome
+    ensures { λ o. ⌜ ((h : Shares) → o ≡ Outcome.Told h → p ≡ Heard h) ⌝ }
+{
+    match p {
+        Pair::Heard(shares) => Outcome::Told(shares),
+        Pair::Barred(bar) => Outcome::Refused(barred(bar)),
+    }
+}
+
+// A road at the point: its fields are judged, and then the pair.
+fn meet(steps: &[u32; 1000], s: Source) -> Outcome
+    requires { ⌜ now steps ≡ table ⌝ }
+    ensures { λ o. ⌜ ((h : Shares) → o ≡ Outcome.Told h → pairOf s home ≡ Heard h) ⌝ }
+{
+    match judge::judge_source(steps, s) {
+        Verdict::Refused(why) => Outcome::Refused(why),
+        Verdict::Allowed => {
+            let voices = emission::voices(steps, s);
+            told(reach::pair(steps, s, voices, point()))
+        }
+    }
+}
+
+// What speed gives, for the road's two speeds.
+fn speed(steps: &[u32; 1000])
+    requires { ⌜ now steps ≡ table ⌝ }
+{
+    let s = street(102500, 1000);
+    match judge::judge_source(steps, s) {
+        Verdict::Refused(why) => print::refusal(b"v 100, u 80: ", why),
+        Verdict::Allowed => {
+            let pace = emission::pace_of(steps, s);
+            print::level(
+                b"v 100, u 80, p 0: ",
+                b"Dv ",
+                emission::speed(steps, pace, 0),
+            );
+            print::level(
+                b"v 100, u 80, p 200: ",
+                b"Dv ",
+                emission::speed(steps, pace, 200),
+            );
+        }
+    }
+}
+
+// The shares of the road, as energies and as levels.
+fn shares(steps: &[u32; 1000], of: &[u8], x: u32)
+    requires { ⌜ now steps ≡ table ⌝ }
+{
+    match meet(steps, street(x, 1000)) {
+        Outcome::Refused(why) => print::refusal(of, why),
+        Outcome::Told(h) => {
+            print::number(of, b"energy by day ", h.day);
+            print::number(of, b"energy in the evening ", h.evening);
+            print::number(of, b"energy at night ", h.night);
+            print::heard(of, b"share by day ", level::level(steps, h.day));
+            print::heard(of, b"share in the evening ", level::level(steps, h.evening));
+            print::heard(of, b"share at night ", level::level(steps, h.night));
+        }
+    }
+}
+
+// The road twice, at night.
+fn twice(steps: &[u32; 1000], of: &[u8], x: u32)
+    requires { ⌜ now steps ≡ table ⌝ }
+{
+    match meet(steps, street(x, 1000)) {
+        Outcome::Refused(why) => print::refusal(of, why),
+        Outcome::Told(h) => {
+            let both = h.night + h.night;
+            print::heard(of, b"night level ", level::level(steps, both));
+        }
+    }
+}
+
+// Whether the road is heard at the point.
+fn limit(steps: &[u32; 1000], of: &[u8], x: u32, length: u32)
+    requires { ⌜ now steps ≡ table ⌝ }
+{
+    match meet(steps, street(x, length)) {
+        Outcome::Refused(why) => print::refusal(of, why),
+        Outcome::Told(_) => print::word(of, b"heard\n"),
+    }
+}
+
+// The longest piece at 25 m, and the nearest road.
+fn limits(steps: &[u32; 1000])
+    requires { ⌜ now steps ≡ table ⌝ }
+{
+    limit(steps, b"25 m, l 1262: ", 102500, 1262);
+    limit(steps, b"25 m, l 1263: ", 102500, 1263);
+    limit(steps, b"dx 357: ", 100357, 1000);
+    limit(steps, b"dx 358, l 100: ", 100358, 100);
+}
+
+// All of them.
+pub fn all() {
+    let steps = level::table::steps();
+    speed(&steps);
+    way(&steps, b"25 m: ", 102500);
+    shares(&steps, b"25 m: ", 102500);
+    twice(&steps, b"25 m, twice: ", 102500);
+    way(&steps, b"x 110000: ", 110000);
+    shares(&steps, b"x 110000: ", 110000);
+    limits(&steps);
+}
