@@ -14,7 +14,7 @@ ghost use Rattle.answer.specs.declared.Refusal.the-variants.{Field};
 ghost use Rattle.road.specs.declared.Verdict.the-variants.{Refused};
 
 // The fields of a source from field 2 on.
-fn source_fields(s: Source) -> [u64; 18]
+pub fn source_fields(s: Source) -> [u64; 18]
     ensures { λ r. ⌜ r ≡ sourceFields s ⌝ }
 {
     let traffic = s.traffic;

@@ -1,0 +1,49 @@
+-- What the tests of an account say of its sums. Assumes nothing.
+use Prim.Native.Nat.{ℕ, _+_, _-_, _≤_}
+use mathlib.Core.Path.{_≡_, sym, _∙_}
+use mathlib.Core.Bool.{true, _&&_}
+use native.Mathlib.Decide.{decLe}
+use native.Mathlib.Omega.{arith}
+use borrow.Author.Tests.{leb-true, le-leb, lt-leb}
+use lib.Dec.{leb}
+use Rattle.layout.proofs.Bounds.{both}
+use Rattle.road.specs.declared.Shares.{Shares}
+use Rattle.store.specs.declared.Account.{Account}
+use Rattle.store.specs.Account.{top, soundB, plusOf, minusOf, coversB}
+
+-- three tests on pairs of numbers
+three : (a b c d e f : ℕ) → (leb a b && leb c d && leb e f) ≡ true → (a ≤ b) × (c ≤ d) × (e ≤ f)
+three a b c d e f h =
+    let p = both (leb a b && leb c d) (leb e f) h in
+    let q = both (leb a b) (leb c d) (p .0) in
+    (leb-true a b (q .0), leb-true c d (q .1), leb-true e f (p .1))
+
+pub sound-le : (a : Account) → soundB a ≡ true → (a .day ≤ top) × (a .evening ≤ top) × (a .night ≤ top)
+sound-le a h = three (a .day) top (a .evening) top (a .night) top h
+
+pub covers-le : (a : Account) (s : Shares) → coversB a s ≡ true → (s .day ≤ a .day) × (s .evening ≤ a .evening) × (s .night ≤ a .night)
+covers-le a s h = three (s .day) (a .day) (s .evening) (a .evening) (s .night) (a .night) h
+
+-- y is at most what x leaves of t where x + y is at most t
+pub leaves : (x y t : ℕ) → x ≤ t → leb y (t - x) ≡ leb (x + y) t
+leaves x y t h = go (decLe y (t - x))
+  where
+    go : Dec (y ≤ t - x) → leb y (t - x) ≡ leb (x + y) t
+    go (yes k) = le-leb y (t - x) k ∙ sym (le-leb (x + y) t (omega arith))
+    go (no k) = lt-leb y (t - x) (omega arith) ∙ sym (lt-leb (x + y) t (omega arith))
+
+-- shares that were added can be taken off, and the account is as before
+pub covers-plus : (a : Account) (s : Shares) → coversB (plusOf a s) s ≡ true
+covers-plus a s =
+    simp (
+      le-leb (s .day) (a .day + s .day) (omega arith),
+      le-leb (s .evening) (a .evening + s .evening) (omega arith),
+      le-leb (s .night) (a .night + s .night) (omega arith),
+    )
+
+pub given-back : (a : Account) (s : Shares) → minusOf (plusOf a s) s ≡ a
+given-back a s =
+    let d : a .day + s .day - s .day ≡ a .day = omega arith in
+    let e : a .evening + s .evening - s .evening ≡ a .evening = omega arith in
+    let n : a .night + s .night - s .night ≡ a .night = omega arith in
+    λ i. record { day = d i; evening = e i; night = n i }

@@ -1,0 +1,5 @@
+-- Laws of the store: of accounts, of slots for any party, of the two parties, and of bytes and book.
+pub mod Accounts
+pub mod Slots
+pub mod Parties
+pub mod Laws

@@ -1,0 +1,123 @@
+-- Sources and receivers are parties that the laws of slots hold for. Assumes nothing.
+use Prim.Native.Nat.{ℕ, zero, suc, _+_, _≤_}
+use mathlib.Core.Path.{_≡_, refl, sym, ap, _∙_}
+use mathlib.Core.Bool.{Bool, true, false, cond}
+use mathlib.Core.List.{List, [], _∷_}
+use native.Mathlib.Omega.{arith}
+use borrow.Author.Tests.{ltb-false}
+use lib.Dec.{ltb, eqb}
+use lib.ListN.{length, getD, drop}
+use lib.Seq.{drop-cons, drop-length}
+use Rattle.layout.specs.Layout.{Within}
+use Rattle.layout.specs.Bounds.{firstOutside, under}
+use Rattle.layout.proofs.Bounds.{both, none-outside, inside-within}
+use Rattle.answer.specs.declared.Refusal.the-variants.{Field, SlowSurface, QuietTruck}
+use Rattle.road.specs.declared.Source.{Source}
+use Rattle.road.specs.declared.Traffic.{Traffic}
+use Rattle.road.specs.declared.Verdict.{Verdict}
+use Rattle.road.specs.declared.Verdict.the-variants.{Allowed, Refused}
+use Rattle.road.specs.Term.{none}
+use Rattle.road.specs.Judge.{sourceFields, sourceLeast, sourceMost, slowSurface, quietTruck, sourceVerdict, receiverVerdict}
+use Rattle.road.proofs.Fit.{passed, fit-receiver}
+use Rattle.store.specs.declared.Held.{Held}
+use Rattle.store.specs.Account.{soundB}
+use Rattle.store.specs.Slots.{layoutOf}
+use Rattle.store.specs.Store.{allowedB, sourceFrom, sourceParty, heldFields, heldFrom, heldParty, SourceStands, HeldStands}
+use Rattle.store.proofs.Accounts.{sound-le}
+use Rattle.store.proofs.Slots.{Lawful}
+
+-- ---- a list spelled out
+
+module _ {A : Type 0} (d : A) where
+  -- its n elements from index k on
+  abbrev spell : ℕ → ℕ → List A → List A
+  spell k zero l = []
+  spell k (suc n) l = getD l k d ∷ spell (suc k) n l
+
+  spelled-from : (k n : ℕ) (l : List A) → length l ≡ k + n → spell k n l ≡ drop k l
+  spelled-from k zero l e = let z : k ≡ length l = omega arith in sym (ap (λ (m : ℕ). drop m l) z ∙ drop-length l)
+  spelled-from k (suc n) l e =
+      ap (λ (t : List A). getD l k d ∷ t) (spelled-from (suc k) n l (omega arith)) ∙ sym (drop-cons l k d (omega arith))
+
+  spelled : (n : ℕ) (l : List A) → length l ≡ n → spell 0 n l ≡ l
+  spelled n l e = spelled-from 0 n l (omega arith)
+
+-- ---- sources
+
+allowed-is : (v : Verdict) → allowedB v ≡ true → v ≡ Allowed
+allowed-is Allowed e = refl
+allowed-is (Refused why) e = absurd (let z : _≡_ {A = ℕ} 0 1 = cc in omega arith)
+
+-- the greatest values fit, whatever the gradient's sign and whether or not there are walls
+most-fits : (s : Source) (a b : Bool) → ltb (s .gradient) 128 ≡ a → eqb (s .walls) 0 ≡ b → under (sourceParty .widths) (sourceMost s) ≡ true
+most-fits s true true e f = simp (e, f)
+most-fits s true false e f = simp (e, f)
+most-fits s false true e f = simp (e, f)
+most-fits s false false e f = simp (e, f)
+
+pub source-fits : (s : Source) → sourceVerdict s ≡ Allowed → Within (layoutOf sourceParty) (1 ∷ sourceFields s)
+unfolding sourceVerdict
+source-fits s e =
+    let first = firstOutside (sourceLeast s) (sourceMost s) (sourceFields s) in
+    let v : Verdict = cond (slowSurface s) (Refused SlowSurface) (cond (quietTruck s) (Refused QuietTruck) Allowed) in
+    let n : 18 ≤ first = ltb-false first 18 (passed (ltb first 18) (Field (2 + first)) v e .0) in (
+      omega arith,
+      inside-within (sourceParty .widths) (sourceLeast s) (sourceMost s) (sourceFields s) (most-fits s (ltb (s .gradient) 128) (eqb (s .walls) 0) refl refl)
+          refl (none-outside (sourceLeast s) (sourceMost s) (sourceFields s) n),
+    )
+
+source-again : (s : Source) → length (s .traffic) ≡ 3 → sourceFrom (1 ∷ sourceFields s) ≡ s
+source-again s e =
+    ap (λ (t : List Traffic).
+    record {
+      x = s .x;
+      y = s .y;
+      length = s .length;
+      lanes = s .lanes;
+      car = s .car;
+      truck = s .truck;
+      surface = s .surface;
+      gradient = s .gradient;
+      reflection = s .reflection;
+      walls = s .walls;
+      height = s .height;
+      spacing = s .spacing;
+      traffic = t;
+    })
+    (spelled none 3 (s .traffic) e)
+
+pub source-lawful : Lawful sourceParty SourceStands
+source-lawful =
+    record {
+      handled = refl;
+      refilled = λ m fs e. spelled 0 18 fs e;
+      reread = λ s h. source-again s (h .1);
+      fits = λ s h. source-fits s (h .0);
+      okay = λ s h. ap allowedB (h .0);
+      stands = λ vs h. (allowed-is (sourceVerdict (sourceFrom vs)) h, refl);
+    }
+
+-- ---- receivers
+
+pub held-fits : (h : Held) → HeldStands h → Within (layoutOf heldParty) (1 ∷ heldFields h)
+held-fits h k =
+    let r = fit-receiver (h .who) (k .0) in
+    let s = sound-le (h .sums) (k .1) in
+    (omega arith, (omega arith, (omega arith, (omega arith, (omega arith, (omega arith, (omega arith, tt)))))))
+
+held-stands : (vs : List ℕ) → heldParty .ok (heldFrom vs) ≡ true → HeldStands (heldFrom vs)
+held-stands vs e =
+    let h = heldFrom vs in
+    let t = both (allowedB (receiverVerdict (h .who))) (soundB (h .sums)) e in
+    (allowed-is (receiverVerdict (h .who)) (t .0), t .1)
+
+pub held-lawful : Lawful heldParty HeldStands
+held-lawful =
+    record {
+      handled = refl;
+      refilled = λ m fs e. spelled 0 6 fs e;
+      reread = λ h k. refl;
+      fits = held-fits;
+      okay = λ h k. simp (k .0, k .1);
+      stands = held-stands;
+    }

@@ -1,0 +1,44 @@
+-- `damaged` looks at the length, then at the source slots, then at the receiver slots.
+-- Assumes nothing.
+use Prim.Native.Nat.{ℕ}
+use mathlib.Core.Path.{_≡_, refl, sym, ap, _∙_}
+use mathlib.Core.Bool.{Bool, true, not, _||_}
+use mathlib.Core.List.{List}
+use borrow.Author.Tests.{ne-eqb}
+use denote.Ref.{now}
+use lib.ListN.{length, drop}
+use Rattle.store.specs.Slots.{found, anyTorn}
+use Rattle.store.specs.Store.{storeLength, split, sourceParty, heldParty, damaged}
+use Rattle.store.proofs.Laws.{torn-damage}
+use Rattle.store.proofs.damaged.Statement.{statement}
+use Rattle.store.proofs.damaged.Tie as tie
+
+wrong : (s : List ℕ) → (length s ≡ storeLength → ⊥) → damaged s ≡ true
+unfolding damaged
+wrong s h =
+    ap (λ (b : Bool). not b || (anyTorn (found sourceParty s) || anyTorn (found heldParty (drop split s))))
+    (ne-eqb (length s) storeLength h)
+
+returns : tie.Need-returns
+unfolding storeLength
+returns c = sym (wrong _ (c .if1 .taken))
+
+any-torn-requires : tie.Need-any-torn-requires
+unfolding storeLength
+any-torn-requires c κs = (c .before .before .pre, c .if1 .left)
+
+returns-2 : tie.Need-returns-2
+unfolding storeLength
+returns-2 c = sym (torn-damage _ _ (anyTorn (found heldParty (drop split (now (c .before .before .before .before .args .store))))) (c .before .before .if1 .left) (sym (c .before .any-torn .ensures) ∙ c .if2 .taken) refl)
+
+any-torn-requires-2 : tie.Need-any-torn-requires-2
+unfolding storeLength
+any-torn-requires-2 c κs = c .before .before .if1 .left
+
+returns-3 : tie.Need-returns-3
+unfolding storeLength
+returns-3 c = c .any-torn2 .ensures ∙ sym (torn-damage _ _ _ (c .before .before .before .if1 .left) (sym (c .before .before .any-torn .ensures) ∙ c .before .if2 .left) refl)
+
+pub damaged-spec : {M : Type 1} → statement M
+damaged-spec =
+    tie.close (tie.spec returns any-torn-requires returns-2 any-torn-requires-2 returns-3)

@@ -1,0 +1,76 @@
+-- `any_torn` meets its contract: what is found from slot j on is what is found at all.
+-- Assumes nothing.
+use Prim.Native.Nat.{ℕ, _-_}
+use mathlib.Core.Path.{sym, ap, _∙_}
+use mathlib.Core.List.{List}
+use native.Mathlib.Omega.{arith}
+use borrow.Author.Needs.{needs}
+use denote.Ref.{now}
+use lib.ListN.{drop}
+use Rattle.store.specs.Slots.{layoutOf, slotBy, slotOf, isTorn}
+use Rattle.store.specs.Store.{receiverSlots, split, heldParty, receiverAt}
+use Rattle.store.proofs.Slots.{Sought, fields-fit, seek-start, seek-hit, seek-on, seek-end}
+use Rattle.store.proofs.Laws.{seat-place}
+use Rattle.store.proofs.receivers.any_torn.Statement.{statement}
+use Rattle.store.proofs.receivers.any_torn.Tie as tie
+
+abbrev Inv-loop : tie.InvT-loop
+Inv-loop store j₀ j = Sought heldParty receiverSlots (drop split store) j
+
+abbrev μ-loop : tie.MeasureT-loop
+μ-loop store j₀ j = 64 - j
+
+loop-holds : tie.Need-loop-holds Inv-loop μ-loop
+loop-holds c = seek-start heldParty receiverSlots _
+
+numbers-requires : tie.Need-numbers-requires Inv-loop μ-loop
+numbers-requires c κs = search needs
+
+torn-requires : tie.Need-torn-requires Inv-loop μ-loop
+torn-requires c κs =
+    let l = c .before .before .before in
+    let z = l .before .before in
+    fields-fit (layoutOf heldParty) (receiverAt (l .loop .j) (now (z .args .store))) _ (c .before .numbers .ensures)
+
+returns : tie.Need-returns Inv-loop μ-loop
+unfolding slotOf receiverSlots
+returns c =
+    let l = c .before .before .before .before .before in
+    let z = l .before .before in
+    let s = now (z .args .store) in
+    let e = ap (λ (t : List ℕ). isTorn (slotOf heldParty t)) (seat-place (l .loop .j) s) ∙ ap (λ (v : List ℕ). isTorn (slotBy heldParty v)) (sym (c .before .before .before .numbers .ensures)) ∙ sym (c .before .torn .ensures) ∙ c .if1 .taken in
+    seek-hit heldParty receiverSlots (drop split s) (l .loop .j) (omega arith) (l .loop .inv) e
+
+add-j : tie.Need-add-j Inv-loop μ-loop
+add-j c = omega arith
+
+loop-less : tie.Need-loop-less Inv-loop μ-loop
+loop-less c = omega arith
+
+loop-again : tie.Need-loop-again Inv-loop μ-loop
+unfolding slotOf receiverSlots
+loop-again c =
+    let l = c .before .before .before .before .before in
+    let z = l .before .before in
+    let s = now (z .args .store) in
+    let e = ap (λ (t : List ℕ). isTorn (slotOf heldParty t)) (seat-place (l .loop .j) s) ∙ ap (λ (v : List ℕ). isTorn (slotBy heldParty v)) (sym (c .before .before .before .numbers .ensures)) ∙ sym (c .before .torn .ensures) ∙ c .if1 .left in
+    seek-on heldParty receiverSlots (drop split s) (l .loop .j) (omega arith) (l .loop .inv) e
+
+returns-2 : tie.Need-returns-2 Inv-loop μ-loop
+unfolding receiverSlots
+returns-2 c = let l = c .before in seek-end heldParty receiverSlots _ (l .loop .j) (c .loop-test .left) (l .loop .inv)
+
+pub any-torn-spec : {M : Type 1} → statement M
+any-torn-spec =
+    tie.close
+    (tie.spec
+    Inv-loop
+    μ-loop
+    loop-holds
+    numbers-requires
+    torn-requires
+    returns
+    add-j
+    loop-less
+    loop-again
+    returns-2)

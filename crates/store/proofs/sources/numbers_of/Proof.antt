@@ -1,0 +1,99 @@
+-- `numbers_of` gives the mark and the fields in their order; each fits the wider number.
+-- Assumes nothing.
+use native.Mathlib.Omega.{arith}
+use borrow.Author.Needs.{needs}
+use Rattle.store.proofs.sources.numbers_of.Statement.{statement}
+use Rattle.store.proofs.sources.numbers_of.Tie as tie
+
+array-copy-out-day : tie.Need-array-copy-out-day
+array-copy-out-day c = search needs
+
+array-copy-out-evening : tie.Need-array-copy-out-evening
+array-copy-out-evening c = search needs
+
+array-copy-out-night : tie.Need-array-copy-out-night
+array-copy-out-night c = search needs
+
+cast-t13 : tie.Need-cast-t13
+cast-t13 c = search needs
+
+cast-t14 : tie.Need-cast-t14
+cast-t14 c = search needs
+
+cast-t15 : tie.Need-cast-t15
+cast-t15 c = search needs
+
+cast-t16 : tie.Need-cast-t16
+cast-t16 c = search needs
+
+cast-t17 : tie.Need-cast-t17
+cast-t17 c = search needs
+
+cast-t18 : tie.Need-cast-t18
+cast-t18 c = search needs
+
+cast-t19 : tie.Need-cast-t19
+cast-t19 c = search needs
+
+cast-t20 : tie.Need-cast-t20
+cast-t20 c = search needs
+
+cast-t21 : tie.Need-cast-t21
+cast-t21 c = search needs
+
+cast-t22 : tie.Need-cast-t22
+cast-t22 c = omega (arith, c .struct-known10)
+
+cast-t23 : tie.Need-cast-t23
+cast-t23 c = omega (arith, c .struct-known11)
+
+cast-t24 : tie.Need-cast-t24
+cast-t24 c = omega (arith, c .struct-known12)
+
+cast-t25 : tie.Need-cast-t25
+cast-t25 c = search needs
+
+cast-t26 : tie.Need-cast-t26
+cast-t26 c = search needs
+
+cast-t27 : tie.Need-cast-t27
+cast-t27 c = search needs
+
+cast-t28 : tie.Need-cast-t28
+cast-t28 c = search needs
+
+cast-t29 : tie.Need-cast-t29
+cast-t29 c = search needs
+
+cast-t30 : tie.Need-cast-t30
+cast-t30 c = search needs
+
+returns : tie.Need-returns
+returns c = search needs
+
+pub numbers-of-spec : {M : Type 1} → statement M
+numbers-of-spec =
+    tie.close
+    (tie.spec
+    array-copy-out-day
+    array-copy-out-evening
+    array-copy-out-night
+    cast-t13
+    cast-t14
+    cast-t15
+    cast-t16
+    cast-t17
+    cast-t18
+    cast-t19
+    cast-t20
+    cast-t21
+    cast-t22
+    cast-t23
+    cast-t24
+    cast-t25
+    cast-t26
+    cast-t27
+    cast-t28
+    cast-t29
+    cast-t30
+    returns)

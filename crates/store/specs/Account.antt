@@ -1,0 +1,35 @@
+-- A receiver's account (document 01, 'What the book holds'): three energy sums, to which a source's three shares are added or from which they
+-- are taken.
+use Prim.Native.Nat.{ℕ, _+_, _-_}
+use mathlib.Core.Bool.{Bool, _&&_}
+use lib.Dec.{leb}
+use Rattle.road.specs.declared.Shares.{Shares}
+use Rattle.store.specs.declared.Account.{Account}
+
+-- the most that a sum may be, 512·10^15
+abbrev pub top : ℕ
+top = 512_000_000_000_000_000
+
+-- no sum is above it
+abbrev pub soundB : Account → Bool
+soundB a = leb (a .day) top && leb (a .evening) top && leb (a .night) top
+
+-- the shares added
+abbrev pub plusOf : Account → Shares → Account
+plusOf a s = record { day = a .day + s .day; evening = a .evening + s .evening; night = a .night + s .night }
+
+-- the shares taken off
+abbrev pub minusOf : Account → Shares → Account
+minusOf a s = record { day = a .day - s .day; evening = a .evening - s .evening; night = a .night - s .night }
+
+-- no share is above its sum
+abbrev pub coversB : Account → Shares → Bool
+coversB a s = leb (s .day) (a .day) && leb (s .evening) (a .evening) && leb (s .night) (a .night)
+
+-- the shares lift no sum above the most it may be
+abbrev pub roomB : Account → Shares → Bool
+roomB a s = soundB (plusOf a s)
+
+-- an account before any share
+abbrev pub nothing : Account
+nothing = record { day = 0; evening = 0; night = 0 }

@@ -1,0 +1,137 @@
+// Receiver slots: 64 of 33 bytes, after the source slots.
+// Numbers are those of a slot, its use mark first.
+use crate::Account;
+use crate::Held;
+use crate::Seat;
+use crate::slot;
+use road::Receiver;
+use road::Verdict;
+ghost use mathlib.Core.Path.{_≡_};
+ghost use mathlib.Core.Bool.{true};
+ghost use mathlib.Core.List.{_∷_};
+ghost use mathlib.Core.Option.{none, some};
+ghost use Prim.Native.Nat.{_+_, _*_, _<_};
+ghost use lib.ListN.{length, drop};
+ghost use Rattle.layout.specs.Layout.{fields};
+ghost use Rattle.layout.specs.Over.{over};
+ghost use Rattle.store.specs.Slots.{Fit, layoutOf, slotBy, slotBytes, found, isTorn, anyTorn};
+ghost use Rattle.store.specs.Store.{storeLength, split, heldParty, heldFrom, heldFields, receiverAt, seatOf, HeldStands};
+
+// The mark, then fields 2 to 4 of document 01, then the three sums.
+const WIDTHS: [u8; 7] = [8, 24, 24, 16, 64, 64, 64];
+
+// Where the receivers begin.
+const SPLIT: usize = 18432;
+
+// The numbers of slot j.
+fn numbers(store: &[u8], j: usize) -> [u64; 7]
+    requires { ⌜ (j < 64) × (length (now store) ≡ storeLength) ⌝ }
+    ensures { λ r. ⌜ r ≡ fields (layoutOf heldParty) (receiverAt j (now (store .entry))) ⌝ }
+{
+    let ws = WIDTHS;
+    let mut v = [0u64; 7];
+    slot::get(store, SPLIT + j * 33, &ws, &mut v);
+    v
+}
+
+// The receiver and its account that numbers describe.
+fn held_from(v: &[u64; 7]) -> Held
+    requires { ⌜ Fit (layoutOf heldParty) 0 (now v) ⌝ }
+    ensures { λ r. ⌜ r ≡ heldFrom (now (v .entry)) ⌝ }
+{
+    let who = Receiver {
+        x: v[1] as u32,
+        y: v[2] as u32,
+        height: v[3] as u16,
+    };
+    let sums = Account {
+        day: v[4],
+        evening: v[5],
+        night: v[6],
+    };
+    Held { who, sums }
+}
+
+// Slot j as it stands.
+pub fn seat(store: &[u8], j: usize) -> Seat
+    requires { ⌜ (j < 64) × (length (now store) ≡ storeLength) ⌝ }
+    ensures { λ r. ⌜ r ≡ seatOf (receiverAt j (now (store .entry))) ⌝ }
+{
+    let v = numbers(store, j);
+    let held = held_from(&v);
+    let used = v[0] == 1;
+    Seat { used, held }
+}
+
+// Whether numbers are neither all zero nor those of a receiver in use.
+fn torn(v: &[u64; 7]) -> bool
+    requires { ⌜ Fit (layoutOf heldParty) 0 (now v) ⌝ }
+    ensures { λ r. ⌜ r ≡ isTorn (slotBy heldParty (now (v .entry))) ⌝ }
+{
+    if slot::blank(v) {
+        return false;
+    }
+    if v[0] != 1 {
+        return true;
+    }
+    let h = held_from(v);
+    let who = h.who;
+    let sums = h.sums;
+    match road::judge::judge_receiver(who) {
+        Verdict::Allowed => !sums.sound(),
+        Verdict::Refused(_) => true,
+    }
+}
+
+// Whether a receiver slot is torn.
+pub(crate) fn any_torn(store: &[u8]) -> bool
+    requires { ⌜ length (now store) ≡ storeLength ⌝ }
+    ensures { λ r. ⌜ r ≡ anyTorn (found heldParty (drop split (now (store .entry)))) ⌝ }
+{
+    let mut j = 0;
+    while j < 64 {
+        let v = numbers(store, j);
+        if torn(&v) {
+            return true;
+        }
+        j += 1;
+    }
+    false
+}
+
+// The numbers of a receiver in use.
+fn numbers_of(h: Held) -> [u64; 7]
+    ensures { λ r. ⌜ r ≡ 1 ∷ heldFields h ⌝ }
+{
+    let who = h.who;
+    let sums = h.sums;
+    [
+        1,
+        who.x as u64,
+        who.y as u64,
+        who.height as u64,
+        sums.day,
+        sums.evening,
+        sums.night,
+    ]
+}
+
+// Writes a receiver and its account into slot j.
+pub fn put_held(store: &mut [u8], j: usize, h: Held)
+    requires { ⌜ (j < 64) × (length (now store) ≡ storeLength) × HeldStands h ⌝ }
+    ensures { λ _. ⌜ now (store .exit) ≡ over (split + j * 33) (slotBytes heldParty (some h)) (now (store .entry)) ⌝ }
+{
+    let ws = WIDTHS;
+    let v = numbers_of(h);
+    slot::put(store, SPLIT + j * 33, &ws, &v);
+}
+
+// Makes slot j all zero.
+pub fn drop_held(store: &mut [u8], j: usize)
+    requires { ⌜ (j < 64) × (length (now store) ≡ storeLength) ⌝ }
+    ensures { λ _. ⌜ now (store .exit) ≡ over (split + j * 33) (slotBytes heldParty none) (now (store .entry)) ⌝ }
+{
+    let ws = WIDTHS;
+    let v = [0u64; 7];
+    slot::put(store, SPLIT + j * 33, &ws, &v);
+}
