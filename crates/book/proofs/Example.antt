@@ -1,0 +1,225 @@
+-- The 25 m case as a history: place, ask, a refused placing, withdraw. What it is answered, computed from the table of figures and the theorems.
+-- Assumes the laws of the store, given as a parameter.
+use mathlib.Core.Path.{_≡_, refl, sym, ap, subst, _∙_}
+use mathlib.Core.Bool.{Bool, true, false, cond, _&&_, _||_}
+use mathlib.Core.Option.{Option, none, some}
+use mathlib.Core.List.{List, [], _∷_, List·Memᴰ·head, List·Permᴰ, Permᴰ·refl}
+use Prim.Native.Nat.{ℕ, zero, suc, _+_, _-_, _≤_, _<_}
+use native.Mathlib.Omega.{arith}
+use lib.Dec.{T, eqb}
+use lib.ListN.{getD}
+use borrow.Author.Tests.{eqb-true, le-ltb}
+use Rattle.answer.specs.declared.Refusal.the-variants.{Taken}
+use Rattle.level.specs.Table.{table, firstQuarter, secondQuarter, thirdQuarter, fourthQuarter}
+use Rattle.level.specs.Level.{energyOf, levelOf, upTo, decades, heardOf}
+use Rattle.level.specs.Figures.{Figure, right, levels}
+use Rattle.road.specs.declared.Term.{Term}
+use Rattle.road.specs.declared.Source.{Source}
+use Rattle.road.specs.declared.Shares.{Shares}
+use Rattle.road.specs.declared.Bar.the-variants.{Loud}
+use Rattle.road.specs.declared.Pair.the-variants.{Heard, Barred}
+use Rattle.road.specs.declared.Verdict.{Verdict}
+use Rattle.road.specs.declared.Verdict.the-variants.{Allowed}
+use Rattle.road.specs.Emission.{carLevel, truckLevel}
+use Rattle.road.specs.Reach.{planSquare, spaceSquare, shareLevel, energyShare, tooLoud, shareOf, loudIn, pairOf}
+use Rattle.road.specs.Judge.{sourceVerdict, receiverVerdict, slotVerdict, lastSource}
+use Rattle.road.specs.Figures.{road, home, roads, figures}
+use Rattle.road.proofs.Figures.{figures-right}
+use Rattle.index.specs.Index.{ldenOf, lnightOf}
+use Rattle.index.specs.declared.Index.the-variants.{Quiet, Tenths}
+use Rattle.store.specs.Store.{sourceSlots, receiverSlots}
+use Rattle.book.specs.declared.Answer.{Answer}
+use Rattle.book.specs.declared.Answer.the-variants.{Levels, Refused}
+use Rattle.book.specs.Calls.{Step, present, isHeard, refuse, allow, intoFree, told, placeSource}
+use Rattle.book.specs.History.{standingReceivers, Placing, source, receiver, calls, Rebuilds, Call, PlaceSource, WithdrawSource, PlaceReceiver}
+use Rattle.book.specs.History.{Ask, storeAfter, bookAfter, answerTo, Real, accepted, kept, lastAt, row, standingSource, standingReceiver}
+use Rattle.book.specs.History.{standingSources, levelsOf, Hears, Rule}
+use Rattle.book.proofs.Slots.{row-at}
+use Rattle.book.proofs.Accounts.{lanes-are}
+use Rattle.book.proofs.Gates.{slot-passes}
+use Rattle.book.proofs.Laws.{StoreLaws}
+use Rattle.book.proofs.History.{laneAfter, seatAfter, on-store, accepts-by-rule, holds-what-stands}
+use Rattle.book.proofs.Rebuild.{keeps, rebuilt}
+
+-- ---- the pair, from the table of figures
+
+abbrev near : Source
+near = road 102500
+
+abbrev far : Source
+far = road 110000
+
+nothing : Figure
+nothing = record { defined = 0; onPaper = 0 }
+
+figure : (l : List Figure) (i : ℕ) → T (right l) → getD l i nothing .defined ≡ getD l i nothing .onPaper
+unfolding right nothing
+figure [] i t = refl
+figure (f ∷ l) i t = go (eqb (f .defined) (f .onPaper)) refl t (figure l) i
+  where
+    go : (b : Bool) → eqb (f .defined) (f .onPaper) ≡ b → T (b && right l)
+        → ((i : ℕ) → T (right l) → getD l i nothing .defined ≡ getD l i nothing .onPaper)
+        → (i : ℕ) → getD (f ∷ l) i nothing .defined ≡ getD (f ∷ l) i nothing .onPaper
+    go true e t ih zero = eqb-true _ _ e
+    go true e t ih (suc i) = ih i t
+    go false e t ih i = absurd t
+
+abbrev level : ℕ → Term
+level period = shareLevel near home period
+
+abbrev above : Term → ℕ
+above t = t .up - t .down
+
+day : above (level 0) ≡ 6028
+unfolding figures levels roads
+day = figure figures 19 figures-right
+
+evening : above (level 1) ≡ 6028
+unfolding figures levels roads
+evening = figure figures 20 figures-right
+
+night : above (level 2) ≡ 5028
+unfolding figures levels roads
+night = figure figures 21 figures-right
+
+energy : (t : Term) (n : ℕ) → above t ≡ suc n → energyShare t ≡ energyOf (suc n)
+unfolding energyShare
+energy t n e = rw (le-ltb (t .up) (t .down) (omega arith), e)
+
+soft : (t : Term) (n : ℕ) → above t ≡ n → n ≤ 9000 → tooLoud t ≡ false
+soft t n e h = le-ltb 9000 (above t) (omega arith)
+
+heard : Hears near home
+unfolding pairOf spaceSquare planSquare loudIn
+heard = go _ _ _ (soft (level 0) 6028 day (omega arith)) (soft (level 1) 6028 evening (omega arith)) (soft (level 2) 5028 night (omega arith)) _
+  where
+    go : (a b c : Bool) → a ≡ false → b ≡ false → c ≡ false → (x : Shares) → isHeard (cond (a || b || c) (Barred Loud) (Heard x)) ≡ true
+    go a b c p q r x = rw (p, q, r)
+
+near-allowed : sourceVerdict near ≡ Allowed
+unfolding sourceVerdict carLevel truckLevel levelOf upTo decades table firstQuarter secondQuarter thirdQuarter fourthQuarter
+near-allowed = refl
+
+far-allowed : sourceVerdict far ≡ Allowed
+unfolding sourceVerdict carLevel truckLevel levelOf upTo decades table firstQuarter secondQuarter thirdQuarter fourthQuarter
+far-allowed = refl
+
+home-allowed : receiverVerdict home ≡ Allowed
+unfolding receiverVerdict
+home-allowed = refl
+
+-- what is told of three sums
+abbrev given : ℕ → ℕ → ℕ → Answer
+given a b c = Levels (ldenOf (a + 0) (b + 0) (c + 0)) (lnightOf (c + 0))
+
+energies : given (energyOf 6028) (energyOf 6028) (energyOf 5028) ≡ Levels (Tenths 616) (Tenths 503)
+unfolding energyOf heardOf levelOf upTo decades table firstQuarter secondQuarter thirdQuarter fourthQuarter
+energies = refl
+
+-- L_DEN 61.6, L_Night 50.3
+near-levels : levelsOf (near ∷ []) home ≡ Levels (Tenths 616) (Tenths 503)
+unfolding shareOf
+near-levels = (λ i. given (energy (level 0) 6027 day i) (energy (level 1) 6027 evening i) (energy (level 2) 5027 night i)) ∙ energies
+
+silence : levelsOf [] home ≡ Levels Quiet Quiet
+unfolding heardOf
+silence = refl
+
+-- ---- the history: the latest call first
+
+abbrev placed : List Call
+placed = PlaceSource 0 near ∷ PlaceReceiver 5 home ∷ []
+
+abbrev withdrawn : List Call
+withdrawn = WithdrawSource 0 ∷ PlaceSource 0 far ∷ Ask 5 ∷ placed
+
+abbrev elsewhere : List Placing
+elsewhere = receiver record { slot = 63; entry = home } ∷ source record { slot = 511; entry = near } ∷ []
+
+at-used : (x : Step) (v : Verdict) (o : Option Source) (t : Source) → v ≡ Allowed → o ≡ some t → allow v (intoFree o x) ≡ refuse Taken
+at-used x v o t p q = rw (p, q)
+
+drops : (c : Call) (h k : List Call) → kept h ≡ k → accepted (answerTo h c) ≡ false → kept (c ∷ h) ≡ k
+unfolding kept
+drops c h k q e = rw (e, q)
+
+module _ (laws : StoreLaws) where
+  -- a call that meets the rule is kept
+  by-rule : (h k : List Call) → Real h → kept h ≡ k → (c : Call) → Rule (laneAfter k) (seatAfter k) c → kept (c ∷ h) ≡ c ∷ k
+  unfolding standingSource standingReceiver
+  by-rule h k real q c n =
+      keeps c h k q (accepts-by-rule laws h real c .1 (subst (λ l. Rule (laneAfter l) (seatAfter l) c) (sym q) n))
+
+  -- a used slot is taken
+  refuses : (h k : List Call) → Real h → kept h ≡ k → (i : ℕ) (s t : Source) → i < sourceSlots → sourceVerdict s ≡ Allowed
+      → laneAfter k i ≡ some t → answerTo h (PlaceSource i s) ≡ Refused Taken
+  unfolding standingSource placeSource
+  refuses h k real q i s t low ok e =
+      let H = holds-what-stands laws h real in
+      let there : getD (bookAfter h .sources) i none ≡ some t =
+      ap (λ l. getD l i none) (H .sources) ∙ row-at sourceSlots (standingSource h) none i low ∙ ap (λ l. laneAfter l i) q ∙ e in
+      let may : slotVerdict lastSource i (sourceVerdict s) ≡ Allowed = slot-passes lastSource i (sourceVerdict s) (omega (arith, lanes-are), ok) in
+      ap (λ (o : Answer × List ℕ). o .0)
+      (on-store (placeSource i s) (storeAfter h) (bookAfter h) (H .undamaged) refl ∙ ap (told (storeAfter h)) (at-used _ _ _ t may there))
+
+  -- what an ask is told
+  tells : (h k : List Call) → Real h → kept h ≡ k → seatAfter k 5 ≡ some home
+      → answerTo h (Ask 5) ≡ levelsOf (present (row sourceSlots (laneAfter k))) home
+  unfolding standingReceiver standingSources standingSource receiverSlots
+  tells h k real q e =
+      holds-what-stands laws h real .levels 5 home (omega arith) (ap (λ l. seatAfter l 5) q ∙ e)
+      ∙ ap (λ l. levelsOf (present (row sourceSlots (laneAfter l))) home) q
+
+  placed-kept : kept placed ≡ placed
+  unfolding kept lastAt row sourceSlots receiverSlots
+  placed-kept =
+      by-rule (PlaceReceiver 5 home ∷ []) (PlaceReceiver 5 home ∷ []) (tt, tt)
+      (by-rule [] [] tt refl (PlaceReceiver 5 home) (omega arith, home-allowed, refl, tt))
+      (PlaceSource 0 near) (omega arith, near-allowed, refl, (heard, tt))
+
+  pub asked : answerTo placed (Ask 5) ≡ Levels (Tenths 616) (Tenths 503)
+  unfolding lastAt row sourceSlots
+  asked = tells placed placed (refl, (tt, tt)) placed-kept refl ∙ near-levels
+
+  asked-kept : kept (Ask 5 ∷ placed) ≡ Ask 5 ∷ placed
+  unfolding lastAt receiverSlots
+  asked-kept = by-rule placed placed (refl, (tt, tt)) placed-kept (Ask 5) (omega arith, refl)
+
+  pub taken : answerTo (Ask 5 ∷ placed) (PlaceSource 0 far) ≡ Refused Taken
+  unfolding lastAt sourceSlots
+  taken = refuses (Ask 5 ∷ placed) (Ask 5 ∷ placed) (tt, (refl, (tt, tt))) asked-kept 0 far near (omega arith) far-allowed refl
+
+  -- all but the refused call
+  pub withdrawn-kept : kept withdrawn ≡ WithdrawSource 0 ∷ Ask 5 ∷ placed
+  unfolding lastAt sourceSlots
+  withdrawn-kept =
+      by-rule (PlaceSource 0 far ∷ Ask 5 ∷ placed) (Ask 5 ∷ placed) (refl, (tt, (refl, (tt, tt))))
+      (drops (PlaceSource 0 far) (Ask 5 ∷ placed) (Ask 5 ∷ placed) asked-kept (ap accepted taken))
+      (WithdrawSource 0) (omega arith, refl)
+
+  pub asked-again : answerTo withdrawn (Ask 5) ≡ Levels Quiet Quiet
+  unfolding lastAt row sourceSlots
+  asked-again = tells withdrawn (WithdrawSource 0 ∷ Ask 5 ∷ placed) (tt, (refl, (tt, (refl, (tt, tt))))) withdrawn-kept refl ∙ silence
+
+  -- ---- the same two into other slots, and the source first
+
+  placed-seat : standingReceiver placed 5 ≡ some home
+  unfolding standingReceiver lastAt
+  placed-seat = ap (λ l. seatAfter l 5) placed-kept
+
+  elsewhere-rebuilds : Rebuilds placed elsewhere
+  unfolding standingSources standingSource standingReceivers standingReceiver lastAt row sourceSlots receiverSlots
+  elsewhere-rebuilds =
+      let s : standingSources placed ≡ near ∷ [] = ap (λ l. present (row sourceSlots (laneAfter l))) placed-kept in
+      let r : standingReceivers placed ≡ home ∷ [] = ap (λ l. present (row receiverSlots (seatAfter l))) placed-kept in
+      record {
+        same-sources = subst (List·Permᴰ (near ∷ [])) (sym s) (Permᴰ·refl (near ∷ []));
+        same-receivers = subst (List·Permᴰ (home ∷ [])) (sym r) (Permᴰ·refl (home ∷ []));
+        source-slots = (omega arith, tt, tt);
+        receiver-slots = (omega arith, tt, tt);
+      }
+
+  pub asked-elsewhere : answerTo (calls elsewhere) (Ask 63) ≡ Levels (Tenths 616) (Tenths 503)
+  unfolding receiverSlots
+  asked-elsewhere =
+      rebuilt laws placed (refl, (tt, tt)) elsewhere elsewhere-rebuilds .same-levels _ 5 (List·Memᴰ·head refl) (omega arith) placed-seat ∙ asked

@@ -1,0 +1,237 @@
+-- A book filled with sources and receivers, every account worked out afresh: each call makes another such book of it, or refuses by the rule.
+-- No late refusal comes up. Assumes nothing.
+use mathlib.Core.Path.{_≡_, refl, sym, ap, subst, _∙_}
+use mathlib.Core.Bool.{true}
+use mathlib.Core.Option.{Option, none, some}
+use mathlib.Core.List.{List, _∷_, map}
+use Prim.Native.Nat.{ℕ, _≤_, _<_}
+use native.Mathlib.Omega.{arith}
+use lib.ListN.{length, getD, set, length-set, length-map, List·getD-map}
+use Rattle.road.specs.declared.Source.{Source}
+use Rattle.road.specs.declared.Receiver.{Receiver}
+use Rattle.road.specs.declared.Pair.{Pair}
+use Rattle.road.specs.declared.Verdict.the-variants.{Allowed}
+use Rattle.road.specs.Reach.{sharesOf, pairOf}
+use Rattle.road.specs.Judge.{sourceVerdict, receiverVerdict, slotVerdict, lastSource, lastReceiver}
+use Rattle.store.specs.declared.Held.{Held}
+use Rattle.store.specs.Account.{soundB, coversB}
+use Rattle.store.specs.Store.{Book, book, sourceSlots, receiverSlots, SourceStands, HeldStands, SoundBook}
+use Rattle.book.specs.declared.Answer.{Answer}
+use Rattle.book.specs.Calls.{omap, used, present, every, Step, tell, allow, fromUsed, firstBar, more, less, hasRoom, canReturn, weigh}
+use Rattle.book.specs.Calls.{placeSource, withdrawSource, placeReceiver, withdrawReceiver, askReceiver}
+use Rattle.book.specs.History.{Call, PlaceSource, WithdrawSource, PlaceReceiver, WithdrawReceiver, Ask, RealCall, All, accepted, sourceMove}
+use Rattle.book.specs.History.{receiverMove, row, levelsOf, Hears, Rule}
+use Rattle.book.proofs.Slots.{never, and-both, all-map, all-both, all-set, all-at, every-all, every-omap, omap-set, omap-twice, omap-unused}
+use Rattle.book.proofs.Slots.{used-omap, perm-put, perm-take, row-length, row-at, moved}
+use Rattle.book.proofs.Accounts.{lanes-are, seats-are, HearsAll, more-is, less-is, covers-is, weigh-perm, weigh-sound}
+use Rattle.book.proofs.Gates.{Fine, past-free, past-used, past-bars, past-late, bars-pass, bars-none, bars-apart, bars-omap, allowed-apart}
+use Rattle.book.proofs.Gates.{source-apart, receiver-apart, slot-passes, past-fields}
+
+-- ---- a filled book
+
+abbrev pub fill : List (Option Source) → List (Option Receiver) → Book
+fill S R = book S (map (omap (weigh (present S))) R)
+
+abbrev pub ReceiverStands : Receiver → Type 0
+ReceiverStands r = receiverVerdict r ≡ Allowed
+
+-- these entries may be in a book together
+pub record Standing (S : List (Option Source)) (R : List (Option Receiver)) : Type 0 where
+  pub lanes : length S ≡ sourceSlots
+  pub seats : length R ≡ receiverSlots
+  pub sources : All SourceStands (present S)
+  pub receivers : All ReceiverStands (present R)
+  pub heard : All (HearsAll (present S)) (present R)
+
+pub fill-at : (S : List (Option Source)) (R : List (Option Receiver)) (j : ℕ)
+    → getD (fill S R .receivers) j none ≡ omap (weigh (present S)) (getD R j none)
+fill-at S R j = List·getD-map (omap (weigh (present S))) R j none
+
+-- a store can hold it
+pub standing-sound : (S : List (Option Source)) (R : List (Option Receiver)) → Standing S R → SoundBook (fill S R)
+standing-sound S R p = record {
+  lanes = p .lanes ∙ lanes-are;
+  seats = length-map R (omap (weigh (present S))) ∙ p .seats ∙ seats-are;
+  sources-stand = λ i s e. all-at SourceStands S i s (p .sources) e;
+  receivers-stand = λ j x e. go j (getD R j none) refl x (sym (fill-at S R j) ∙ e);
+}
+  where
+    go : (j : ℕ) (o : Option Receiver) → getD R j none ≡ o → (x : Held) → omap (weigh (present S)) o ≡ some x → HeldStands x
+    go j none q x e = never cc
+    go j (some r) q x e =
+        let same : weigh (present S) r ≡ x = cc in
+        let ok : HeldStands (weigh (present S) r) = (
+          all-at ReceiverStands R j r (p .receivers) q,
+          weigh-sound S r (p .lanes) (all-at (HearsAll (present S)) R j r (p .heard) q),
+        ) in
+        subst HeldStands same ok
+
+-- ---- what each call makes of it, where lane and seat say who is in each slot
+
+module _ (lane : ℕ → Option Source) (seat : ℕ → Option Receiver) where
+  abbrev S : List (Option Source)
+  S = row sourceSlots lane
+
+  abbrev R : List (Option Receiver)
+  R = row receiverSlots seat
+
+  abbrev afresh : Receiver → Held
+  afresh = weigh (present S)
+
+  -- the book b is that of the slots as the call's moves leave them
+  abbrev pub Next : Call → Book → Type 0
+  Next c b =
+      (b ≡ fill (moved sourceSlots (sourceMove c) S) (moved receiverSlots (receiverMove c) R))
+      × (RealCall c → Standing (moved sourceSlots (sourceMove c) S) (moved receiverSlots (receiverMove c) R))
+
+  abbrev pub Leads : Call → Step → Type 0
+  Leads c k = Fine (Rule lane seat c) (λ a. (accepted a ≡ true) × Next c (fill S R)) (Next c) k
+
+  -- ---- who is in a slot
+
+  lane-is : (i : ℕ) → i ≤ lastSource → getD S i none ≡ lane i
+  lane-is i h = row-at sourceSlots lane none i (omega (arith, lanes-are))
+
+  seat-is : (j : ℕ) → j ≤ lastReceiver → getD (fill S R .receivers) j none ≡ omap afresh (seat j)
+  seat-is j h = fill-at S R j ∙ ap (omap afresh) (row-at receiverSlots seat none j (omega (arith, seats-are)))
+
+  -- ---- a source comes
+
+  module _ (i : ℕ) (s : Source) (low : i < length S) (free : getD S i none ≡ none) where
+    entered : (r : Receiver) → more s (afresh r) ≡ weigh (present (set S i (some s))) r
+    entered r = more-is s (present S) r ∙ sym (weigh-perm (perm-put S i s low free) r)
+
+    room : All (HearsAll (present (set S i (some s)))) (present R) → every (hasRoom s) (present (fill S R .receivers)) ≡ true
+    room p =
+        every-omap afresh (hasRoom s) R
+        ∙ every-all (λ r. hasRoom s (afresh r)) (present R)
+        (all-map (HearsAll (present (set S i (some s)))) (λ r. hasRoom s (afresh r) ≡ true)
+        (λ r q. ap (λ (x : Held). soundB (x .sums)) (entered r)
+        ∙ weigh-sound (set S i (some s)) r (length-set S i (some s) ∙ row-length sourceSlots lane) q)
+        (present R) p)
+
+  pub place-source : (i : ℕ) (s : Source) → Standing S R → Leads (PlaceSource i s) (placeSource i s (fill S R))
+  unfolding placeSource
+  place-source i s p =
+      let who : Held → Pair = λ x. pairOf s (x .who) in
+      past-fields _ _ _ lastSource i (sourceVerdict s) _ (source-apart s) (λ n. (omega (arith, n .0, lanes-are), n .1)) λ ok.
+      past-free _ _ _ (getD S i none) _ (λ n. lane-is i (ok .0) ∙ n .2) λ free.
+      past-bars _ _ _ (firstBar who 0 (fill S R .receivers)) _ (bars-apart _ 0 _)
+      (λ n. bars-omap afresh who 0 R ∙ bars-none (λ r. pairOf s r) 0 R (n .3)) λ bars.
+      let low : i < length S = omega (arith, ok .0, p .lanes, lanes-are) in
+      let hears = bars-pass (λ r. pairOf s r) 0 R (sym (bars-omap afresh who 0 R) ∙ bars) in
+      let all = all-both (λ r. Hears s r) (λ r h a. all-set (λ s. Hears s r) S i (some s) (h, tt) a) (present R) hears (p .heard) in
+      past-late _ _ _ _ _ (room i s low free all) (
+        (omega (arith, ok .0, lanes-are), ok .1, sym (lane-is i (ok .0)) ∙ free, hears),
+        (
+          ap (book (set S i (some s))) (omap-twice afresh (more s) _ R (entered i s low free)),
+          λ real.
+              record {
+                lanes = length-set S i (some s) ∙ p .lanes;
+                seats = p .seats;
+                sources = all-set SourceStands S i (some s) ((ok .1, real), tt) (p .sources);
+                receivers = p .receivers;
+                heard = all;
+              },
+        ),
+      )
+
+  -- ---- a source goes
+
+  module _ (i : ℕ) (s : Source) (there : getD S i none ≡ some s) where
+    gone : (r : Receiver) → afresh r ≡ weigh (s ∷ present (set S i none)) r
+    gone = weigh-perm (perm-take S i s there)
+
+    left : (r : Receiver) → less s (afresh r) ≡ weigh (present (set S i none)) r
+    left r = ap (less s) (gone r) ∙ less-is s (present (set S i none)) r
+
+    returns : All (HearsAll (present S)) (present R) → every (canReturn s) (present (fill S R .receivers)) ≡ true
+    returns p =
+        every-omap afresh (canReturn s) R
+        ∙ every-all (λ r. canReturn s (afresh r)) (present R)
+        (all-map (HearsAll (present S)) (λ r. canReturn s (afresh r) ≡ true)
+        (λ r q. and-both (all-at (λ s. Hears s r) S i s q there)
+        (ap (λ (x : Held). coversB (x .sums) (sharesOf s r)) (gone r) ∙ covers-is s (present (set S i none)) r))
+        (present R) p)
+
+  pub withdraw-source : (i : ℕ) → Standing S R → Leads (WithdrawSource i) (withdrawSource i (fill S R))
+  unfolding withdrawSource
+  withdraw-source i p =
+      past-fields _ _ _ lastSource i Allowed _ allowed-apart (λ n. (omega (arith, n .0, lanes-are), refl)) λ ok.
+      past-used _ _ _ (getD S i none) _ (λ n. ap used (lane-is i (ok .0)) ∙ n .1) λ s there.
+      past-late _ _ _ _ _ (returns i s there (p .heard)) (
+        (omega (arith, ok .0, lanes-are), ap used (sym (lane-is i (ok .0)) ∙ there)),
+        (
+          ap (book (set S i none)) (omap-twice afresh (less s) _ R (left i s there)),
+          λ real.
+              record {
+                lanes = length-set S i none ∙ p .lanes;
+                seats = p .seats;
+                sources = all-set SourceStands S i none tt (p .sources);
+                receivers = p .receivers;
+                heard = all-map (HearsAll (present S)) _ (λ r q. all-set (λ s. Hears s r) S i none tt q) (present R) (p .heard);
+              },
+        ),
+      )
+
+  -- ---- a receiver comes, goes or is asked
+
+  pub place-receiver : (j : ℕ) (r : Receiver) → Standing S R → Leads (PlaceReceiver j r) (placeReceiver j r (fill S R))
+  unfolding placeReceiver
+  place-receiver j r p =
+      past-fields _ _ _ lastReceiver j (receiverVerdict r) _ (receiver-apart r) (λ n. (omega (arith, n .0, seats-are), n .1)) λ ok.
+      past-free _ _ _ (getD (fill S R .receivers) j none) _ (λ n. seat-is j (ok .0) ∙ ap (omap afresh) (n .2)) λ free.
+      past-bars _ _ _ (firstBar (λ (s : Source). pairOf s r) 0 S) _ (bars-apart _ 0 S) (λ n. bars-none (λ s. pairOf s r) 0 S (n .3)) λ bars.
+      let hears = bars-pass (λ s. pairOf s r) 0 S bars in (
+        (omega (arith, ok .0, seats-are), ok .1, omap-unused afresh (seat j) (sym (seat-is j (ok .0)) ∙ free), hears),
+        (
+          ap (book S) (sym (omap-set afresh R j (some r))),
+          λ real.
+              record {
+                lanes = p .lanes;
+                seats = length-set R j (some r) ∙ p .seats;
+                sources = p .sources;
+                receivers = all-set ReceiverStands R j (some r) (ok .1, tt) (p .receivers);
+                heard = all-set (HearsAll (present S)) R j (some r) (hears, tt) (p .heard);
+              },
+        ),
+      )
+
+  -- all that the rule asks of a withdrawal or an ask
+  abbrev Seated : ℕ → Type 0
+  Seated j = (j < receiverSlots) × (used (seat j) ≡ true)
+
+  at-seat : (j : ℕ) (Q : Answer → Type 0) (P : Book → Type 0) (k : Held → Step) → ((x : Held) → Seated j → Fine (Seated j) Q P (k x))
+      → Fine (Seated j) Q P (allow (slotVerdict lastReceiver j Allowed) (fromUsed (getD (fill S R .receivers) j none) k))
+  at-seat j Q P k f =
+      past-fields _ _ _ lastReceiver j Allowed _ allowed-apart (λ n. (omega (arith, n .0, seats-are), refl)) λ ok.
+      let same : used (getD (fill S R .receivers) j none) ≡ used (seat j) = ap used (seat-is j (ok .0)) ∙ used-omap afresh (seat j) in
+      past-used _ _ _ (getD (fill S R .receivers) j none) _ (λ n. same ∙ n .1) λ x there.
+      f x (omega (arith, ok .0, seats-are), sym same ∙ ap used there)
+
+  pub withdraw-receiver : (j : ℕ) → Standing S R → Leads (WithdrawReceiver j) (withdrawReceiver j (fill S R))
+  unfolding withdrawReceiver
+  withdraw-receiver j p = at-seat j _ _ _ λ x n. (
+    n,
+    (
+      ap (book S) (sym (omap-set afresh R j none)),
+      λ real.
+          record {
+            lanes = p .lanes;
+            seats = length-set R j none ∙ p .seats;
+            sources = p .sources;
+            receivers = all-set ReceiverStands R j none tt (p .receivers);
+            heard = all-set (HearsAll (present S)) R j none tt (p .heard);
+          },
+    ),
+  )
+
+  pub ask-receiver : (j : ℕ) → Standing S R → Leads (Ask j) (askReceiver j (fill S R))
+  unfolding askReceiver
+  ask-receiver j p = at-seat j _ _ _ λ x n. (n, (refl, (refl, λ real. p)))
+
+  pub ask-tells : (j : ℕ) (r : Receiver) → j < receiverSlots → seat j ≡ some r → askReceiver j (fill S R) ≡ tell (levelsOf (present S) r)
+  unfolding askReceiver
+  ask-tells j r h e =
+      let low : j ≤ lastReceiver = omega (arith, seats-are) in
+      rw (slot-passes lastReceiver j Allowed (low, refl), seat-is j low, e)

@@ -1,0 +1,21 @@
+-- The theorems of specs/History.antt, all together.
+-- `theorems` takes the laws of a store; `of-this-book` are the theorems of this project's store, with nothing assumed.
+use Rattle.book.specs.History.{Theorems}
+use Rattle.book.proofs.Laws.{StoreLaws, store-laws}
+use Rattle.book.proofs.History.{calls-agree, refused-leaves, clear-forgets, never-late, accepts-by-rule, holds-what-stands}
+use Rattle.book.proofs.Rebuild.{rebuilt, anew-rebuilds}
+
+pub theorems : StoreLaws → Theorems
+theorems laws = record {
+  holds-what-stands = holds-what-stands laws;
+  never-late = never-late laws;
+  accepts-by-rule = accepts-by-rule laws;
+  rebuilt = rebuilt laws;
+  anew-rebuilds = anew-rebuilds;
+  clear-forgets = clear-forgets laws;
+  refused-leaves = refused-leaves;
+  agrees = calls-agree;
+}
+
+pub of-this-book : Theorems
+of-this-book = theorems store-laws

@@ -1,0 +1,271 @@
+-- Histories of the book: what a list of calls leaves standing, and the theorems about it (document 01, 'What the book holds').
+-- What stands is read off the calls and their answers, never off a store. The theorems say that the store agrees with it, whatever the calls.
+use Prim.Native.Nat.{ℕ, zero, suc, _<_}
+use mathlib.Core.Path.{_≡_}
+use mathlib.Core.Logic.{_≢_, _↔_}
+use mathlib.Core.Bool.{Bool, true, false, cond}
+use mathlib.Core.Option.{Option, none, some}
+use mathlib.Core.List.{List, [], _∷_, _++_, map, List·Memᴰ, List·Permᴰ}
+use lib.ListN.{length, getD}
+use lib.Dec.{eqb}
+use Rattle.answer.specs.declared.Refusal.the-variants.{Damaged}
+use Rattle.road.specs.declared.Source.{Source}
+use Rattle.road.specs.declared.Receiver.{Receiver}
+use Rattle.road.specs.declared.Verdict.the-variants.{Allowed}
+use Rattle.road.specs.Reach.{shareOf, pairOf}
+use Rattle.road.specs.Judge.{sourceVerdict, receiverVerdict}
+use Rattle.index.specs.Index.{ldenOf, lnightOf}
+use Rattle.store.specs.declared.Held.{Held}
+use Rattle.store.specs.Store.{Book, damaged, bookOf, clearedBytes, sourceSlots, receiverSlots}
+use Rattle.book.specs.declared.Answer.{Answer}
+use Rattle.book.specs.declared.Answer.the-variants.{Done, Levels, Refused}
+use Rattle.book.specs.Calls.{omap, used, present, sumOf, isHeard, placeSource, withdrawSource, placeReceiver, withdrawReceiver, askReceiver}
+use Rattle.book.specs.Calls.{onStore, clearStore}
+
+-- ---- a history: any calls, the latest first, refused ones among them
+
+pub data Call : Type 0 where
+  Clear : Call
+  PlaceSource : ℕ → Source → Call
+  WithdrawSource : ℕ → Call
+  PlaceReceiver : ℕ → Receiver → Call
+  WithdrawReceiver : ℕ → Call
+  Ask : ℕ → Call
+
+-- what a call answers and leaves of a store: the very definitions that the contracts cite
+abbrev pub perform : Call → List ℕ → Answer × List ℕ
+perform Clear b = clearStore b
+perform (PlaceSource i s) b = onStore (placeSource i s) b
+perform (WithdrawSource i) b = onStore (withdrawSource i) b
+perform (PlaceReceiver j r) b = onStore (placeReceiver j r) b
+perform (WithdrawReceiver j) b = onStore (withdrawReceiver j) b
+perform (Ask j) b = onStore (askReceiver j) b
+
+-- the store after a history that began with a cleared one
+unfoldable pub storeAfter : List Call → List ℕ
+storeAfter [] = clearedBytes
+storeAfter (c ∷ h) = perform c (storeAfter h) .1
+
+-- the book in it
+abbrev pub bookAfter : List Call → Book
+bookAfter h = bookOf (storeAfter h)
+
+-- what one more call is answered
+abbrev pub answerTo : List Call → Call → Answer
+answerTo h c = perform c (storeAfter h) .0
+
+-- a source has three periods of traffic: code's type says so, but in antt they are a list of any length, and the store keeps three
+abbrev pub RealCall : Call → Type 0
+RealCall Clear = Unit {0}
+RealCall (PlaceSource i s) = length (s .traffic) ≡ 3
+RealCall (WithdrawSource i) = Unit {0}
+RealCall (PlaceReceiver j r) = Unit {0}
+RealCall (WithdrawReceiver j) = Unit {0}
+RealCall (Ask j) = Unit {0}
+
+-- P holds of each in a list
+abbrev pub All : {A : Type 0} → (A → Type 0) → List A → Type 0
+All P [] = Unit {0}
+All P (a ∷ l) = P a × All P l
+
+-- the histories that code can make
+abbrev pub Real : List Call → Type 0
+Real h = All RealCall h
+
+-- ---- what stands after a history
+
+abbrev pub accepted : Answer → Bool
+accepted Done = true
+accepted (Levels den night) = true
+accepted (Refused r) = false
+
+-- the calls that were accepted
+unfoldable pub kept : List Call → List Call
+kept [] = []
+kept (c ∷ h) = cond (accepted (answerTo h c)) (c ∷ kept h) (kept h)
+
+-- what an accepted call means to the slots of one party: slot i is entered or left, all are left, or nobody moves
+pub data Move (A : Type 0) : Type 0 where
+  enter : ℕ → A → Move A
+  leave : ℕ → Move A
+  allLeave : Move A
+  still : Move A
+
+abbrev pub sourceMove : Call → Move Source
+sourceMove Clear = allLeave
+sourceMove (PlaceSource i s) = enter i s
+sourceMove (WithdrawSource i) = leave i
+sourceMove (PlaceReceiver j r) = still
+sourceMove (WithdrawReceiver j) = still
+sourceMove (Ask j) = still
+
+abbrev pub receiverMove : Call → Move Receiver
+receiverMove Clear = allLeave
+receiverMove (PlaceSource i s) = still
+receiverMove (WithdrawSource i) = still
+receiverMove (PlaceReceiver j r) = enter j r
+receiverMove (WithdrawReceiver j) = leave j
+receiverMove (Ask j) = still
+
+module _ {A : Type 0} where
+  -- who is in slot i after these moves, the latest first
+  unfoldable pub lastAt : List (Move A) → ℕ → Option A
+  lastAt [] i = none
+  lastAt (enter k a ∷ l) i = cond (eqb i k) (some a) (lastAt l i)
+  lastAt (leave k ∷ l) i = cond (eqb i k) none (lastAt l i)
+  lastAt (allLeave ∷ l) i = none
+  lastAt (still ∷ l) i = lastAt l i
+
+  -- f 0, f 1, .. up to f (n - 1)
+  unfoldable pub row : ℕ → (ℕ → A) → List A
+  row zero f = []
+  row (suc n) f = f zero ∷ row n (λ k. f (suc k))
+
+-- who stands in a slot
+unfoldable pub standingSource : List Call → ℕ → Option Source
+standingSource h i = lastAt (map sourceMove (kept h)) i
+
+unfoldable pub standingReceiver : List Call → ℕ → Option Receiver
+standingReceiver h j = lastAt (map receiverMove (kept h)) j
+
+-- and in all of them, from the lowest slot on
+unfoldable pub standingSources : List Call → List Source
+standingSources h = present (row sourceSlots (standingSource h))
+
+unfoldable pub standingReceivers : List Call → List Receiver
+standingReceivers h = present (row receiverSlots (standingReceiver h))
+
+-- the energy that a receiver gets from sources in one period: 0 day, 1 evening, 2 night
+abbrev pub total : List Source → Receiver → ℕ → ℕ
+total ss r period = sumOf (λ s. shareOf s r period) ss
+
+-- ---- first theorem: after every history the store holds just what stands, each receiver with the sums of what stands
+
+pub record SumsOf (ss : List Source) (x : Held) : Type 0 where
+  pub day : x .sums .day ≡ total ss (x .who) 0
+  pub evening : x .sums .evening ≡ total ss (x .who) 1
+  pub night : x .sums .night ≡ total ss (x .who) 2
+
+-- what an ask ought to answer
+abbrev pub levelsOf : List Source → Receiver → Answer
+levelsOf ss r = Levels (ldenOf (total ss r 0) (total ss r 1) (total ss r 2)) (lnightOf (total ss r 2))
+
+pub record HoldsWhatStands (h : List Call) : Type 0 where
+  pub undamaged : damaged (storeAfter h) ≡ false
+  -- slot by slot
+  pub sources : bookAfter h .sources ≡ row sourceSlots (standingSource h)
+  pub receivers : map (omap (λ x. x .who)) (bookAfter h .receivers) ≡ row receiverSlots (standingReceiver h)
+  pub sums : (j : ℕ) (x : Held) → getD (bookAfter h .receivers) j none ≡ some x → SumsOf (standingSources h) x
+  pub levels : (j : ℕ) (r : Receiver) → j < receiverSlots → standingReceiver h j ≡ some r → answerTo h (Ask j) ≡ levelsOf (standingSources h) r
+
+-- ---- second theorem: no history meets damage, found before all else or after it
+
+abbrev pub NeverLate : List Call → Type 0
+NeverLate h = (c : Call) → answerTo h c ≢ Refused Damaged
+
+-- ---- third theorem: what stands decides which calls are accepted
+
+-- no bar between them
+abbrev pub Hears : Source → Receiver → Type 0
+Hears s r = isHeard (pairOf s r) ≡ true
+
+-- what a call has to meet, where `lane` and `seat` say who stands in each slot
+abbrev pub Rule : (ℕ → Option Source) → (ℕ → Option Receiver) → Call → Type 0
+Rule lane seat Clear = Unit {0}
+Rule lane seat (PlaceSource i s) =
+    (i < sourceSlots) × (sourceVerdict s ≡ Allowed) × (lane i ≡ none) × All (λ r. Hears s r) (present (row receiverSlots seat))
+Rule lane seat (WithdrawSource i) = (i < sourceSlots) × (used (lane i) ≡ true)
+Rule lane seat (PlaceReceiver j r) =
+    (j < receiverSlots) × (receiverVerdict r ≡ Allowed) × (seat j ≡ none) × All (λ s. Hears s r) (present (row sourceSlots lane))
+Rule lane seat (WithdrawReceiver j) = (j < receiverSlots) × (used (seat j) ≡ true)
+Rule lane seat (Ask j) = (j < receiverSlots) × (used (seat j) ≡ true)
+
+abbrev pub AcceptsByRule : List Call → Type 0
+AcceptsByRule h = (c : Call) → (accepted (answerTo h c) ≡ true) ↔ Rule (standingSource h) (standingReceiver h) c
+
+-- ---- fourth theorem: what stands, placed anew in any order and into any slots, is accepted and sounds the same
+
+-- into a slot, an entry
+pub record Put (A : Type 0) : Type 0 where
+  pub slot : ℕ
+  pub entry : A
+
+pub data Placing : Type 0 where
+  source : Put Source → Placing
+  receiver : Put Receiver → Placing
+
+abbrev pub asCall : Placing → Call
+asCall (source x) = PlaceSource (x .slot) (x .entry)
+asCall (receiver x) = PlaceReceiver (x .slot) (x .entry)
+
+-- placings as a history, the last of the list done first
+abbrev pub calls : List Placing → List Call
+calls ks = map asCall ks
+
+abbrev pub sourcesIn : List Placing → List (Put Source)
+sourcesIn [] = []
+sourcesIn (source x ∷ ks) = x ∷ sourcesIn ks
+sourcesIn (receiver x ∷ ks) = sourcesIn ks
+
+abbrev pub receiversIn : List Placing → List (Put Receiver)
+receiversIn [] = []
+receiversIn (source x ∷ ks) = receiversIn ks
+receiversIn (receiver x ∷ ks) = x ∷ receiversIn ks
+
+module _ {A : Type 0} where
+  abbrev pub entriesOf : List (Put A) → List A
+  entriesOf l = map (λ x. x .entry) l
+
+  -- into slots below n, no two the same
+  abbrev pub Apart : ℕ → List (Put A) → Type 0
+  Apart n [] = Unit {0}
+  Apart n (x ∷ l) = (x .slot < n) × All (λ y. x .slot ≢ y .slot) l × Apart n l
+
+-- the placings ks are a rearrangement of just what stands after h, into slots of their own
+pub record Rebuilds (h : List Call) (ks : List Placing) : Type 0 where
+  pub same-sources : List·Permᴰ (entriesOf (sourcesIn ks)) (standingSources h)
+  pub same-receivers : List·Permᴰ (entriesOf (receiversIn ks)) (standingReceivers h)
+  pub source-slots : Apart sourceSlots (sourcesIn ks)
+  pub receiver-slots : Apart receiverSlots (receiversIn ks)
+
+-- each call is accepted in its turn
+abbrev pub AllAccepted : List Call → Type 0
+AllAccepted [] = Unit {0}
+AllAccepted (c ∷ h) = (accepted (answerTo h c) ≡ true) × AllAccepted h
+
+-- a cleared store accepts them all; then each receiver has the account, and answers the levels, that it has after h
+pub record Rebuilt (h : List Call) (ks : List Placing) : Type 0 where
+  pub all-accepted : AllAccepted (calls ks)
+  pub same-accounts : (j k : ℕ) (x y : Held) → getD (bookAfter h .receivers) j none ≡ some x → getD (bookAfter (calls ks) .receivers) k none ≡ some y
+      → x .who ≡ y .who → x ≡ y
+  pub same-levels : (x : Put Receiver) (j : ℕ) → List·Memᴰ x (receiversIn ks) → j < receiverSlots → standingReceiver h j ≡ some (x .entry)
+      → answerTo (calls ks) (Ask (x .slot)) ≡ answerTo h (Ask j)
+
+-- such placings there are: each into the slot where it stands
+module _ {A : Type 0} where
+  abbrev pub inPlace : ℕ → List (Option A) → List (Put A)
+  inPlace i [] = []
+  inPlace i (none ∷ l) = inPlace (suc i) l
+  inPlace i (some a ∷ l) = record { slot = i; entry = a } ∷ inPlace (suc i) l
+
+unfoldable pub anew : List Call → List Placing
+anew h =
+    map source (inPlace 0 (row sourceSlots (standingSource h)))
+    ++ map receiver (inPlace 0 (row receiverSlots (standingReceiver h)))
+
+-- ---- a contract settles its outcome: two outcomes that meet it are equal
+
+abbrev pub Agree : {A : Type 0} → (A → Type 0) → Type 0
+Agree {A} Meets = (x y : A) → Meets x → Meets y → x ≡ y
+
+-- ---- all together: for every history that code can make; the last two, for any bytes at all
+
+pub record Theorems : Type 0 where
+  pub holds-what-stands : (h : List Call) → Real h → HoldsWhatStands h
+  pub never-late : (h : List Call) → Real h → NeverLate h
+  pub accepts-by-rule : (h : List Call) → Real h → AcceptsByRule h
+  pub rebuilt : (h : List Call) → Real h → (ks : List Placing) → Rebuilds h ks → Rebuilt h ks
+  pub anew-rebuilds : (h : List Call) → Rebuilds h (anew h)
+  pub clear-forgets : (h : List Call) → Real h → (since : List Call) → storeAfter (since ++ Clear ∷ h) ≡ storeAfter since
+  pub refused-leaves : (c : Call) (b : List ℕ) → accepted (perform c b .0) ≡ false → perform c b .1 ≡ b
+  pub agrees : (c : Call) (b : List ℕ) → Agree (λ (o : Answer × List ℕ). o ≡ perform c b)

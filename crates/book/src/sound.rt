@@ -1,0 +1,104 @@
+// The calls on a store that is known to be undamaged: the same answers with no look for damage.
+// Whoever watches a store from its clearing on can use these; each keeps it undamaged.
+use crate::Answer;
+use crate::gather;
+use crate::round::Stop;
+use answer::Refusal;
+use road::Receiver;
+use road::Verdict;
+use store::Held;
+ghost use mathlib.Core.Path.{_≡_};
+ghost use mathlib.Core.Bool.{false};
+ghost use mathlib.Core.Option.{none, some};
+ghost use Prim.Native.Nat.{_<_};
+ghost use lib.ListN.{getD};
+ghost use Rattle.level.specs.Table.{table};
+ghost use Rattle.road.specs.declared.Verdict.the-variants.{Allowed};
+ghost use Rattle.road.specs.Judge.{receiverVerdict};
+ghost use Rattle.store.specs.Store.{damaged, bookOf};
+ghost use Rattle.book.specs.Calls.{told, receiverIn, receiverOut, heardAt, placeReceiver, withdrawReceiver, askReceiver};
+
+// Places a receiver whose fields and slot are allowed.
+fn enter_receiver(steps: &[u32; 1000], store: &mut [u8], j: usize, r: Receiver) -> Answer
+    requires { ⌜ (now steps ≡ table) × (damaged (now store) ≡ false) × (j < 64) × (receiverVerdict r ≡ Allowed) ⌝ }
+    ensures { λ a. ⌜ (a, now (store .exit)) ≡ told (now (store .entry)) (receiverIn j r (bookOf (now (store .entry)))) ⌝ }
+{
+    let seat = store::receivers::seat(store, j);
+    if seat.used {
+        return Answer::Refused(Refusal::Taken);
+    }
+    let found = gather::gather(steps, store, r);
+    let stop = found.stop;
+    match stop {
+        Stop::At(why) => Answer::Refused(why),
+        Stop::Nowhere => {
+            let sums = found.sums;
+            let x = Held { who: r, sums: sums };
+            store::receivers::put_held(store, j, x);
+            Answer::Done
+        }
+    }
+}
+
+// Places a receiver.
+pub fn place_receiver(steps: &[u32; 1000], store: &mut [u8], slot: u16, r: Receiver) -> Answer
+    requires { ⌜ (now steps ≡ table) × (damaged (now store) ≡ false) ⌝ }
+    ensures { λ a. ⌜ (a, now (store .exit)) ≡ told (now (store .entry)) (placeReceiver slot r (bookOf (now (store .entry)))) ⌝ }
+{
+    let fields = road::judge::judge_receiver(r);
+    match road::judge::judge_slot(63, slot, fields) {
+        Verdict::Refused(why) => Answer::Refused(why),
+        Verdict::Allowed => enter_receiver(steps, store, slot as usize, r),
+    }
+}
+
+// Withdraws the receiver of a slot that is allowed.
+fn leave_receiver(store: &mut [u8], j: usize) -> Answer
+    requires { ⌜ (damaged (now store) ≡ false) × (j < 64) ⌝ }
+    ensures { λ r. ⌜ (r, now (store .exit)) ≡ told (now (store .entry)) (receiverOut j (bookOf (now (store .entry)))) ⌝ }
+{
+    let seat = store::receivers::seat(store, j);
+    if !seat.used {
+        return Answer::Refused(Refusal::Vacant);
+    }
+    store::receivers::drop_held(store, j);
+    Answer::Done
+}
+
+// Withdraws a receiver.
+pub fn withdraw_receiver(store: &mut [u8], slot: u16) -> Answer
+    requires { ⌜ damaged (now store) ≡ false ⌝ }
+    ensures { λ r. ⌜ (r, now (store .exit)) ≡ told (now (store .entry)) (withdrawReceiver slot (bookOf (now (store .entry)))) ⌝ }
+{
+    match road::judge::judge_slot(63, slot, Verdict::Allowed) {
+        Verdict::Refused(why) => Answer::Refused(why),
+        Verdict::Allowed => leave_receiver(store, slot as usize),
+    }
+}
+
+// The indices of the receiver of a slot that is allowed.
+fn indices(steps: &[u32; 1000], store: &[u8], j: usize) -> Answer
+    requires { ⌜ (now steps ≡ table) × (damaged (now store) ≡ false) × (j < 64) ⌝ }
+    ensures { λ r. ⌜ (r, now (store .entry)) ≡ told (now (store .entry)) (heardAt j (bookOf (now (store .entry)))) ⌝ }
+{
+    let seat = store::receivers::seat(store, j);
+    if !seat.used {
+        return Answer::Refused(Refusal::Vacant);
+    }
+    let x = seat.held;
+    let sums = x.sums;
+    let den = index::lden(steps, sums.day, sums.evening, sums.night);
+    let night = index::lnight(steps, sums.night);
+    Answer::Levels(den, night)
+}
+
+// Asks a receiver for its two indices.
+pub fn ask(steps: &[u32; 1000], store: &[u8], slot: u16) -> Answer
+    requires { ⌜ (now steps ≡ table) × (damaged (now store) ≡ false) ⌝ }
+    ensures { λ r. ⌜ (r, now (store .entry)) ≡ told (now (store .entry)) (askReceiver slot (bookOf (now (store .entry)))) ⌝ }
+{
+    match road::judge::judge_slot(63, slot, Verdict::Allowed) {
+        Verdict::Refused(why) => Answer::Refused(why),
+        Verdict::Allowed => indices(steps, store, slot as usize),
+    }
+}
