@@ -5,7 +5,7 @@ use mathlib.Core.Path.{_≡_}
 use mathlib.Core.Bool.{Bool, true, false, cond, not, _&&_}
 use mathlib.Core.Option.{Option, none, some}
 use mathlib.Core.List.{List, [], _∷_, map}
-use lib.ListN.{length, getD}
+use lib.ListN.{length, getD, set}
 use Rattle.answer.specs.declared.Refusal.{Refusal}
 use Rattle.road.specs.declared.Source.{Source}
 use Rattle.road.specs.declared.Receiver.{Receiver}
@@ -17,7 +17,7 @@ use Rattle.store.specs.declared.Account.{Account}
 use Rattle.store.specs.declared.Held.{Held}
 use Rattle.store.specs.declared.Seat.{Seat}
 use Rattle.store.specs.Account.{plusOf, minusOf, coversB, roomB, soundB, nothing}
-use Rattle.store.specs.Store.{HeldStands}
+use Rattle.store.specs.Store.{Book, book, HeldStands}
 use Rattle.book.specs.declared.round.Turn.{Turn}
 use Rattle.book.specs.declared.round.Turn.the-variants.{Moved, Barred, Late}
 use Rattle.book.specs.declared.round.Visit.{Visit}
@@ -101,6 +101,13 @@ unfoldable pub seated : List Seat → List (Option Held) → List (Option Held)
 seated [] os = os
 seated (t ∷ ts) [] = []
 seated (t ∷ ts) (o ∷ os) = seatOver t o ∷ seated ts os
+
+-- a book with one seat written
+abbrev pub seatedAt : Seat → ℕ → List (Option Held) → List (Option Held)
+seatedAt t j os = cond (t .used) (set os j (some (t .held))) os
+
+abbrev pub settled : Seat → ℕ → Book → Book
+settled t j b = book (b .sources) (seatedAt t j (b .receivers))
 
 -- each used seat may be in the book
 pub record StandingSeats (ts : List Seat) : Type 0 where

@@ -7,8 +7,9 @@ pub mod sound;
 use answer::Refusal;
 use index::Index;
 use road::Receiver;
+use road::Source;
 ghost use mathlib.Core.Path.{_≡_};
-ghost use Rattle.book.specs.Calls.{onStore, clearStore, placeReceiver, withdrawReceiver, askReceiver};
+ghost use Rattle.book.specs.Calls.{onStore, clearStore, placeSource, withdrawSource, placeReceiver, withdrawReceiver, askReceiver};
 
 // What a call answers: done, the two indices of a receiver (L_DEN, then L_Night), or a refusal.
 pub enum Answer {
@@ -26,6 +27,28 @@ pub fn clear(store: &mut [u8]) -> Answer
     }
     store::wipe(store);
     Answer::Done
+}
+
+// Places a source into a free slot and adds its shares to every receiver.
+pub fn place_source(store: &mut [u8], slot: u16, s: Source) -> Answer
+    ensures { λ r. ⌜ (r, now (store .exit)) ≡ onStore (placeSource slot s) (now (store .entry)) ⌝ }
+{
+    let steps = level::table::steps();
+    if store::damaged(&steps, store) {
+        return Answer::Refused(Refusal::Damaged);
+    }
+    sound::place_source(&steps, store, slot, s)
+}
+
+// Withdraws a source and takes its shares off every receiver.
+pub fn withdraw_source(store: &mut [u8], slot: u16) -> Answer
+    ensures { λ r. ⌜ (r, now (store .exit)) ≡ onStore (withdrawSource slot) (now (store .entry)) ⌝ }
+{
+    let steps = level::table::steps();
+    if store::damaged(&steps, store) {
+        return Answer::Refused(Refusal::Damaged);
+    }
+    sound::withdraw_source(&steps, store, slot)
 }
 
 // Places a receiver into a free slot with the shares of all standing sources.

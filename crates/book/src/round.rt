@@ -1,5 +1,5 @@
 // A source's round of the receivers: what each account would be with its shares more or less, before a byte is written.
-// Each receiver is looked at on its own: it moves, its pair is barred, or a sum would leave its bounds.
+// The first pass works every share out once and keeps the seats as they would be; the second pass writes them.
 use answer::Refusal;
 use road::Bar;
 use road::Pair;
@@ -16,11 +16,11 @@ ghost use lib.ListN.{getD};
 ghost use mathlib.Core.Option.{none};
 ghost use Rattle.level.specs.Table.{table};
 ghost use Rattle.road.specs.declared.Verdict.the-variants.{Allowed};
-ghost use Rattle.road.specs.Judge.{sourceVerdict};
+ghost use Rattle.road.specs.Judge.{sourceVerdict, receiverVerdict};
 ghost use Rattle.road.specs.Inner.{voicesOf};
-ghost use Rattle.store.specs.Store.{damaged, bookOf};
+ghost use Rattle.store.specs.Store.{damaged, bookOf, bytesOf, book, HeldStands};
 ghost use Rattle.book.specs.Calls.{barAt};
-ghost use Rattle.book.specs.Inner.{raisedBy, loweredBy, visitOf, vacant};
+ghost use Rattle.book.specs.Inner.{raisedBy, loweredBy, visitOf, vacant, Rounded, settled, seated, StandingSeats};
 
 // What becomes of a receiver when a source comes or goes.
 pub enum Turn {
@@ -103,7 +103,7 @@ fn lowered(x: Held, p: Pair) -> Turn
 }
 
 // What becomes of the receiver in a slot.
-pub fn visit_seat(
+fn visit_seat(
     steps: &[u32; 1000],
     store: &[u8],
     j: usize,
@@ -128,7 +128,7 @@ pub fn visit_seat(
 }
 
 // A seat with nobody in it.
-pub fn vacant() -> Seat
+fn vacant() -> Seat
     ensures { λ r. ⌜ r ≡ vacant ⌝ }
 {
     Seat {
@@ -145,5 +145,79 @@ pub fn vacant() -> Seat
                 night: 0,
             },
         },
+    }
+}
+
+// The first pass, from the lowest slot on.
+pub fn go_round(
+    steps: &[u32; 1000],
+    store: &[u8],
+    s: Source,
+    voices: [Voice; 3],
+    adding: bool,
+) -> Round
+    requires { ⌜ (now steps ≡ table) × (damaged (now store) ≡ false) × (sourceVerdict s ≡ Allowed) × (voices ≡ voicesOf s) ⌝ }
+    ensures { λ r. ⌜ Rounded adding s (bookOf (now (store .entry)) .receivers) r ⌝ }
+{
+    let empty = vacant();
+    let mut seats = [empty; 64];
+    let mut late = false;
+    let mut j = 0;
+    while j < 64 {
+        match visit_seat(steps, store, j, s, voices, adding) {
+            Visit::Free => {
+                j += 1;
+            }
+            Visit::Turned(turn) => match turn {
+                Turn::Moved(x) => {
+                    seats[j] = Seat {
+                        used: true,
+                        held: x,
+                    };
+                    j += 1;
+                }
+                Turn::Late => {
+                    late = true;
+                    j += 1;
+                }
+                Turn::Barred(bar) => {
+                    return Round {
+                        stop: Stop::At(bar_at(j as u16, bar)),
+                        late: late,
+                        seats: seats,
+                    };
+                }
+            },
+        }
+    }
+    Round {
+        stop: Stop::Nowhere,
+        late: late,
+        seats: seats,
+    }
+}
+
+// A seat that is used is written into its slot; one that is not leaves the slot as it was.
+fn settle(store: &mut [u8], j: usize, seat: Seat)
+    requires { ⌜ (damaged (now store) ≡ false) × (j < 64) × (seat .used ≡ true → HeldStands (seat .held)) ⌝ }
+    ensures { λ _. ⌜ now (store .exit) ≡ bytesOf (settled seat j (bookOf (now (store .entry)))) ⌝ }
+{
+    if !seat.used {
+        return;
+    }
+    let x = seat.held;
+    store::receivers::put_held(store, j, x);
+}
+
+// The second pass: the seats that are used are written.
+pub fn write_seats(store: &mut [u8], seats: [Seat; 64])
+    requires { ⌜ (damaged (now store) ≡ false) × StandingSeats seats ⌝ }
+    ensures { λ _. ⌜ (damaged (now (store .exit)) ≡ false) × (bookOf (now (store .exit)) ≡ book (bookOf (now (store .entry)) .sources) (seated seats (bookOf (now (store .entry)) .receivers))) ⌝ }
+{
+    let mut j = 0;
+    while j < 64 {
+        let seat = seats[j];
+        settle(store, j, seat);
+        j += 1;
     }
 }

@@ -2,9 +2,11 @@
 // Whoever watches a store from its clearing on can use these; each keeps it undamaged.
 use crate::Answer;
 use crate::gather;
+use crate::round;
 use crate::round::Stop;
 use answer::Refusal;
 use road::Receiver;
+use road::Source;
 use road::Verdict;
 use store::Held;
 ghost use mathlib.Core.Path.{_≡_};
@@ -14,9 +16,79 @@ ghost use Prim.Native.Nat.{_<_};
 ghost use lib.ListN.{getD};
 ghost use Rattle.level.specs.Table.{table};
 ghost use Rattle.road.specs.declared.Verdict.the-variants.{Allowed};
-ghost use Rattle.road.specs.Judge.{receiverVerdict};
+ghost use Rattle.road.specs.Judge.{sourceVerdict, receiverVerdict};
 ghost use Rattle.store.specs.Store.{damaged, bookOf};
-ghost use Rattle.book.specs.Calls.{told, receiverIn, receiverOut, heardAt, placeReceiver, withdrawReceiver, askReceiver};
+ghost use Rattle.book.specs.Calls.{told, sourceIn, sourceOut, receiverIn, receiverOut, heardAt, placeSource, withdrawSource, placeReceiver, withdrawReceiver, askReceiver};
+
+// Places a source whose fields and slot are allowed.
+fn enter_source(steps: &[u32; 1000], store: &mut [u8], i: usize, s: Source) -> Answer
+    requires { ⌜ (now steps ≡ table) × (damaged (now store) ≡ false) × (i < 512) × (sourceVerdict s ≡ Allowed) ⌝ }
+    ensures { λ r. ⌜ (r, now (store .exit)) ≡ told (now (store .entry)) (sourceIn i s (bookOf (now (store .entry)))) ⌝ }
+{
+    let lane = store::sources::lane(store, i);
+    if lane.used {
+        return Answer::Refused(Refusal::Taken);
+    }
+    let voices = road::emission::voices(steps, s);
+    let found = round::go_round(steps, store, s, voices, true);
+    let stop = found.stop;
+    match stop {
+        Stop::At(why) => Answer::Refused(why),
+        Stop::Nowhere => {
+            if found.late {
+                return Answer::Refused(Refusal::Damaged);
+            }
+            let seats = found.seats;
+            round::write_seats(store, seats);
+            store::sources::put_source(store, i, s);
+            Answer::Done
+        }
+    }
+}
+
+// Places a source.
+pub fn place_source(steps: &[u32; 1000], store: &mut [u8], slot: u16, s: Source) -> Answer
+    requires { ⌜ (now steps ≡ table) × (damaged (now store) ≡ false) ⌝ }
+    ensures { λ r. ⌜ (r, now (store .exit)) ≡ told (now (store .entry)) (placeSource slot s (bookOf (now (store .entry)))) ⌝ }
+{
+    let fields = road::judge::judge_source(steps, s);
+    match road::judge::judge_slot(511, slot, fields) {
+        Verdict::Refused(why) => Answer::Refused(why),
+        Verdict::Allowed => enter_source(steps, store, slot as usize, s),
+    }
+}
+
+// Withdraws the source of a slot that is allowed.
+fn leave_source(steps: &[u32; 1000], store: &mut [u8], i: usize) -> Answer
+    requires { ⌜ (now steps ≡ table) × (damaged (now store) ≡ false) × (i < 512) ⌝ }
+    ensures { λ r. ⌜ (r, now (store .exit)) ≡ told (now (store .entry)) (sourceOut i (bookOf (now (store .entry)))) ⌝ }
+{
+    let lane = store::sources::lane(store, i);
+    if !lane.used {
+        return Answer::Refused(Refusal::Vacant);
+    }
+    let s = lane.source;
+    let voices = road::emission::voices(steps, s);
+    let found = round::go_round(steps, store, s, voices, false);
+    if found.late {
+        return Answer::Refused(Refusal::Damaged);
+    }
+    let seats = found.seats;
+    round::write_seats(store, seats);
+    store::sources::drop_source(store, i);
+    Answer::Done
+}
+
+// Withdraws a source.
+pub fn withdraw_source(steps: &[u32; 1000], store: &mut [u8], slot: u16) -> Answer
+    requires { ⌜ (now steps ≡ table) × (damaged (now store) ≡ false) ⌝ }
+    ensures { λ r. ⌜ (r, now (store .exit)) ≡ told (now (store .entry)) (withdrawSource slot (bookOf (now (store .entry)))) ⌝ }
+{
+    match road::judge::judge_slot(511, slot, Verdict::Allowed) {
+        Verdict::Refused(why) => Answer::Refused(why),
+        Verdict::Allowed => leave_source(steps, store, slot as usize),
+    }
+}
 
 // Places a receiver whose fields and slot are allowed.
 fn enter_receiver(steps: &[u32; 1000], store: &mut [u8], j: usize, r: Receiver) -> Answer
