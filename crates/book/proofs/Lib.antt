@@ -8,6 +8,7 @@ pub mod Accounts
 pub mod Gates
 pub mod Filled
 pub mod Laws
+pub mod Keeps
 pub mod History
 pub mod Rebuild
 pub mod Theorems

@@ -123,7 +123,7 @@ module _ (s : Source) (b : Book) (r : Round) (g : RoundedBy (turnOf true s) (b .
 
 -- ---- and of one that goes
 
-less-sound : (a : Account) (h : Shares) → soundB a ≡ true → soundB (minusOf a h) ≡ true
+pub less-sound : (a : Account) (h : Shares) → soundB a ≡ true → soundB (minusOf a h) ≡ true
 less-sound a h e =
     let l = sound-le a e in
     ap₂ _&&_ (ap₂ _&&_ (le-leb (a .day - h .day) top (omega (arith, l .0, sub-le (a .day) (h .day)))) (le-leb (a .evening - h .evening) top (omega (arith, l .1, sub-le (a .evening) (h .evening)))))

@@ -3,6 +3,7 @@
 use Rattle.book.specs.History.{Theorems}
 use Rattle.book.proofs.Laws.{StoreLaws, store-laws}
 use Rattle.book.proofs.History.{calls-agree, refused-leaves, clear-forgets, never-late, accepts-by-rule, holds-what-stands}
+use Rattle.book.proofs.Keeps.{stays-sound}
 use Rattle.book.proofs.Rebuild.{rebuilt, anew-rebuilds}
 
 pub theorems : StoreLaws → Theorems
@@ -14,6 +15,7 @@ theorems laws = record {
   anew-rebuilds = anew-rebuilds;
   clear-forgets = clear-forgets laws;
   refused-leaves = refused-leaves;
+  stays-sound = stays-sound;
   agrees = calls-agree;
 }
 

@@ -258,7 +258,7 @@ anew h =
 abbrev pub Agree : {A : Type 0} → (A → Type 0) → Type 0
 Agree {A} Meets = (x y : A) → Meets x → Meets y → x ≡ y
 
--- ---- all together: for every history that code can make; the last two, for any bytes at all
+-- ---- all together: for every history that code can make; the last three, for any bytes at all
 
 pub record Theorems : Type 0 where
   pub holds-what-stands : (h : List Call) → Real h → HoldsWhatStands h
@@ -268,4 +268,5 @@ pub record Theorems : Type 0 where
   pub anew-rebuilds : (h : List Call) → Rebuilds h (anew h)
   pub clear-forgets : (h : List Call) → Real h → (since : List Call) → storeAfter (since ++ Clear ∷ h) ≡ storeAfter since
   pub refused-leaves : (c : Call) (b : List ℕ) → accepted (perform c b .0) ≡ false → perform c b .1 ≡ b
+  pub stays-sound : (c : Call) → RealCall c → (b : List ℕ) → damaged b ≡ false → damaged (perform c b .1) ≡ false
   pub agrees : (c : Call) (b : List ℕ) → Agree (λ (o : Answer × List ℕ). o ≡ perform c b)

@@ -2,7 +2,7 @@
 // What each call answers and leaves, for every store, is a definition of specs/Calls.antt; no call requires anything.
 mod gather;
 mod round;
-mod sound;
+pub mod sound;
 
 use answer::Refusal;
 use index::Index;

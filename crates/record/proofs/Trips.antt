@@ -1,6 +1,6 @@
 -- The round trips of a record, for every kind: what is read and written again is the same bytes, and what is written and read again the same fields.
 -- And its part: the bytes of a record that is read, and none of one that is refused. Assumes nothing.
-use Prim.Native.Nat.{ℕ, _≤_, _<_}
+use Prim.Native.Nat.{ℕ, zero, suc, _≤_, _<_}
 use mathlib.Core.Path.{_≡_, refl, sym, ap, ap₂, _∙_, subst}
 use mathlib.Core.Bool.{Bool, true, false, cond, _||_}
 use mathlib.Core.List.{List, [], _++_}
@@ -165,3 +165,32 @@ part-read s c e = ap (λ (x : Told). partBy x s) e
 pub part-refused : (s : List ℕ) (why : Refusal) → readOf s .told ≡ told.Refused why → partOf s ≡ []
 unfolding partOf
 part-refused s why e = ap (λ (x : Told). partBy x s) e
+
+-- ---- a source that is read has three periods, like every source of the code
+
+kind-periods : (k : ℕ) (f : ℕ → ℕ) → length (kindAt k .source f .traffic) ≡ 3
+unfolding kindAt
+kind-periods zero f = refl
+kind-periods (suc zero) f = refl
+kind-periods (suc (suc zero)) f = refl
+kind-periods (suc (suc (suc zero))) f = refl
+kind-periods (suc (suc (suc (suc zero)))) f = refl
+kind-periods (suc (suc (suc (suc (suc zero))))) f = refl
+kind-periods (suc (suc (suc (suc (suc (suc k)))))) f = refl
+
+judged-periods : (v : Verdict) (c : Call) (s : Source) → length (s .traffic) ≡ 3 → length (judged v c s .source .traffic) ≡ 3
+judged-periods verdict.Allowed c s e = e
+judged-periods (verdict.Refused why) c s e = refl
+
+either-periods : (t : Bool) (a b : Reading) → length (a .source .traffic) ≡ 3 → length (b .source .traffic) ≡ 3 → length (cond t a b .source .traffic) ≡ 3
+either-periods true a b p q = p
+either-periods false a b p q = q
+
+pub three-periods : (s : List ℕ) → length (readOf s .source .traffic) ≡ 3
+unfolding readOf
+three-periods s =
+    let c = kindAt (kindOf s) .call (at (valuesOf s)) in
+    let r = kindAt (kindOf s) .source (at (valuesOf s)) in
+    either-periods (cutShort s) _ _ refl
+    (either-periods (unknownKind s) _ _ refl
+    (either-periods (leftoverSet s) _ _ refl (judged-periods (verdictOf c r) c r (kind-periods (kindOf s) (at (valuesOf s))))))

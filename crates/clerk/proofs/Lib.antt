@@ -1,0 +1,2 @@
+-- What a reading comes to on a store.
+pub mod Laws

@@ -1,0 +1,59 @@
+-- One record at the front of a job, read and done to a store: what comes of it, for any bytes and any store (document 01, 'Numbers a caller
+-- may get back': the lowest number that applies is given, so damage comes before what the reader refuses).
+use Prim.Native.Nat.{ℕ}
+use mathlib.Core.List.{List}
+use Rattle.answer.specs.declared.Refusal.{Refusal}
+use Rattle.road.specs.declared.Source.{Source}
+use Rattle.index.specs.declared.Index.{Index}
+use Rattle.record.specs.declared.Call.{Call as Request}
+use Rattle.record.specs.declared.Call.the-variants as request
+use Rattle.record.specs.declared.Told.{Told}
+use Rattle.record.specs.declared.Told.the-variants as told
+use Rattle.record.specs.declared.Reading.{Reading}
+use Rattle.record.specs.Record.{readOf, extentOf}
+use Rattle.book.specs.declared.Answer.{Answer}
+use Rattle.book.specs.declared.Answer.the-variants as answer
+use Rattle.book.specs.Calls.{refuse, onStore}
+use Rattle.book.specs.History.{Call, PlaceSource, WithdrawSource, PlaceReceiver, WithdrawReceiver, Ask, perform}
+use Rattle.clerk.specs.declared.Outcome.{Outcome}
+use Rattle.clerk.specs.declared.Outcome.the-variants.{Done, Levels, Refused}
+use Rattle.clerk.specs.declared.Deed.{Deed}
+
+-- the call of the book that a record asks for
+abbrev pub callOf : Request → Source → Call
+callOf (request.PlaceReceiver slot r) s = PlaceReceiver slot r
+callOf (request.WithdrawReceiver slot) s = WithdrawReceiver slot
+callOf (request.PlaceSource slot) s = PlaceSource slot s
+callOf (request.WithdrawSource slot) s = WithdrawSource slot
+callOf (request.Ask slot) s = Ask slot
+
+-- its slot
+abbrev pub slotIn : Request → ℕ
+slotIn (request.PlaceReceiver slot r) = slot
+slotIn (request.WithdrawReceiver slot) = slot
+slotIn (request.PlaceSource slot) = slot
+slotIn (request.WithdrawSource slot) = slot
+slotIn (request.Ask slot) = slot
+
+-- an answer of the book with the slot that was asked
+abbrev pub outcomeOf : ℕ → Answer → Outcome
+outcomeOf slot answer.Done = Done
+outcomeOf slot (answer.Levels den night) = Levels slot den night
+outcomeOf slot (answer.Refused why) = Refused why
+
+-- what a reading comes to on a store: its call is done, or its refusal stands
+abbrev pub slotTold : Told → ℕ
+slotTold (told.Call c) = slotIn c
+slotTold (told.Refused why) = 0
+
+abbrev pub answerTold : Told → Source → List ℕ → Answer × List ℕ
+answerTold (told.Call c) source store = perform (callOf c source) store
+answerTold (told.Refused why) source store = onStore (λ book. refuse why) store
+
+abbrev pub deed : Told → ℕ → Answer × List ℕ → Deed × List ℕ
+deed t n o = (record { outcome = outcomeOf (slotTold t) (o .0); extent = n }, o .1)
+
+-- the record at the front of the job: its outcome and how far the next one is, and the store afterwards. Where the job cannot go on, after
+-- refusals 2 and 3, that is 0
+unfoldable pub doneTo : List ℕ → List ℕ → Deed × List ℕ
+doneTo job store = deed (readOf job .told) (extentOf job) (answerTold (readOf job .told) (readOf job .source) store)
