@@ -1,60 +1,20 @@
--- What a slot that was read tells of the book, and how an answer follows from the verdict on damage, slot and fields.
+-- How an answer follows from the verdict on damage, slot and fields.
 -- Assumes nothing.
 use mathlib.Core.Path.{_≡_, refl, sym, ap, _∙_}
 use mathlib.Core.Bool.{Bool, true, false, cond}
-use mathlib.Core.Option.{Option, none, some}
 use mathlib.Core.List.{List}
-use Prim.Native.Nat.{ℕ, _≤_, _<_}
+use Prim.Native.Nat.{ℕ, _≤_}
 use native.Mathlib.Omega.{arith}
-use lib.ListN.{getD}
 use lib.Dec.{leb}
 use borrow.Author.Tests.{leb-true}
-use Rattle.answer.specs.declared.Refusal.{Refusal}
 use Rattle.answer.specs.declared.Refusal.the-variants.{Damaged, Field}
-use Rattle.road.specs.declared.Source.{Source}
 use Rattle.road.specs.declared.Verdict.{Verdict}
 use Rattle.road.specs.declared.Verdict.the-variants.{Allowed}
 use Rattle.road.specs.declared.Verdict.the-variants.{Refused as Barring}
 use Rattle.road.specs.Judge.{slotVerdict}
-use Rattle.store.specs.declared.Held.{Held}
-use Rattle.store.specs.declared.Lane.{Lane}
-use Rattle.store.specs.declared.Seat.{Seat}
-use Rattle.store.specs.Store.{Book, damaged, bookOf, sourceAt, receiverAt, laneOf, seatOf, laneEntry, seatEntry, SourceStands, HeldStands}
-use Rattle.store.proofs.Laws.{lane-is, seat-is, sound-book}
-use Rattle.book.specs.declared.Answer.{Answer}
+use Rattle.store.specs.Store.{Book, damaged, bookOf}
 use Rattle.book.specs.declared.Answer.the-variants.{Refused}
-use Rattle.book.specs.declared.round.Stop.{Stop}
-use Rattle.book.specs.declared.round.Stop.the-variants.{Nowhere, At}
 use Rattle.book.specs.Calls.{Step, told, onStore}
-use Rattle.book.specs.Inner.{stopOf}
-
--- ---- slots
-
-module _ (s : List ℕ) (i : ℕ) (h : damaged s ≡ false) (l : i < 512) (t : Lane) (e : t ≡ laneOf (sourceAt i s)) where
-  lane-entry : getD (bookOf s .sources) i none ≡ laneEntry t
-  lane-entry = lane-is s i h l ∙ ap laneEntry (sym e)
-
-  pub lane-free : t .used ≡ false → getD (bookOf s .sources) i none ≡ none
-  lane-free f = lane-entry ∙ ap (λ (b : Bool). cond b (some (t .source)) none) f
-
-  pub lane-used : t .used ≡ true → getD (bookOf s .sources) i none ≡ some (t .source)
-  lane-used f = lane-entry ∙ ap (λ (b : Bool). cond b (some (t .source)) none) f
-
-  pub lane-stands : t .used ≡ true → SourceStands (t .source)
-  lane-stands f = sound-book s h .sources-stand i (t .source) (lane-used f)
-
-module _ (s : List ℕ) (j : ℕ) (h : damaged s ≡ false) (l : j < 64) (t : Seat) (e : t ≡ seatOf (receiverAt j s)) where
-  seat-entry : getD (bookOf s .receivers) j none ≡ seatEntry t
-  seat-entry = seat-is s j h l ∙ ap seatEntry (sym e)
-
-  pub seat-free : t .used ≡ false → getD (bookOf s .receivers) j none ≡ none
-  seat-free f = seat-entry ∙ ap (λ (b : Bool). cond b (some (t .held)) none) f
-
-  pub seat-used : t .used ≡ true → getD (bookOf s .receivers) j none ≡ some (t .held)
-  seat-used f = seat-entry ∙ ap (λ (b : Bool). cond b (some (t .held)) none) f
-
-  pub seat-stands : t .used ≡ true → HeldStands (t .held)
-  seat-stands f = sound-book s h .receivers-stand j (t .held) (seat-used f)
 
 -- ---- verdicts
 
@@ -66,16 +26,6 @@ slot-allowed last slot v = go (leb slot last) refl
     go false e f =
         let z : Barring (Field 1) ≡ Allowed = sym (ap (λ (x : Bool). cond x v (Barring (Field 1))) e) ∙ f in
         absurd (let w : _≡_ {A = ℕ} 0 1 = cc in omega arith)
-
--- ---- where a walk over the other party stopped
-
-pub stop-none : (o : Option Refusal) → stopOf o ≡ Nowhere → o ≡ none
-stop-none none e = refl
-stop-none (some r) e = absurd (let z : _≡_ {A = ℕ} 0 1 = cc in omega arith)
-
-pub stop-some : (o : Option Refusal) (r : Refusal) → stopOf o ≡ At r → o ≡ some r
-stop-some none r e = absurd (let z : _≡_ {A = ℕ} 0 1 = cc in omega arith)
-stop-some (some q) r e = let k : q ≡ r = cc in ap some k
 
 -- ---- damage before all else
 

@@ -30,7 +30,8 @@ use Rattle.index.specs.declared.Index.the-variants.{Quiet, Tenths}
 use Rattle.store.specs.Store.{sourceSlots, receiverSlots}
 use Rattle.book.specs.declared.Answer.{Answer}
 use Rattle.book.specs.declared.Answer.the-variants.{Levels, Refused}
-use Rattle.book.specs.Calls.{Step, present, isHeard, refuse, allow, intoFree, told, placeSource}
+use Rattle.ledger.specs.Lists.{present}
+use Rattle.book.specs.Calls.{Step, isHeard, refuse, allow, intoFree, told, placeSource}
 use Rattle.book.specs.History.{standingReceivers, Placing, source, receiver, calls, Rebuilds, Call, PlaceSource, WithdrawSource, PlaceReceiver}
 use Rattle.book.specs.History.{Ask, storeAfter, bookAfter, answerTo, Real, accepted, kept, lastAt, row, standingSource, standingReceiver}
 use Rattle.book.specs.History.{standingSources, levelsOf, Hears, Rule}

@@ -17,7 +17,8 @@ use Rattle.store.specs.declared.Held.{Held}
 use Rattle.store.specs.Account.{soundB, coversB}
 use Rattle.store.specs.Store.{Book, book, sourceSlots, receiverSlots, SourceStands, HeldStands, SoundBook}
 use Rattle.book.specs.declared.Answer.{Answer}
-use Rattle.book.specs.Calls.{omap, used, present, every, Step, tell, allow, fromUsed, firstBar, more, less, hasRoom, canReturn, weigh}
+use Rattle.ledger.specs.Lists.{omap, present, every, firstBar, weigh}
+use Rattle.book.specs.Calls.{used, Step, tell, allow, fromUsed, more, less, hasRoom, canReturn}
 use Rattle.book.specs.Calls.{placeSource, withdrawSource, placeReceiver, withdrawReceiver, askReceiver}
 use Rattle.book.specs.History.{Call, PlaceSource, WithdrawSource, PlaceReceiver, WithdrawReceiver, Ask, RealCall, All, accepted, sourceMove}
 use Rattle.book.specs.History.{receiverMove, row, levelsOf, Hears, Rule}

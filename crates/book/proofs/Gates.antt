@@ -25,7 +25,8 @@ use Rattle.road.specs.Judge.{unlessOutside, sourceVerdict, receiverVerdict, slo
 use Rattle.road.proofs.Judged.{outside, inside}
 use Rattle.store.specs.Store.{Book}
 use Rattle.book.specs.declared.Answer.{Answer}
-use Rattle.book.specs.Calls.{omap, used, present, Step, refuse, tell, change, allow, intoFree, fromUsed, orBar, firstBar, unlessBarred}
+use Rattle.ledger.specs.Lists.{omap, present, orBar, firstBar}
+use Rattle.book.specs.Calls.{used, Step, refuse, tell, change, allow, intoFree, fromUsed, unlessBarred}
 use Rattle.book.specs.Calls.{unlessLate, isHeard}
 use Rattle.book.specs.History.{All}
 use Rattle.book.proofs.Slots.{never}

@@ -16,7 +16,8 @@ use Rattle.store.specs.Store.{Book, damaged, bookOf, bytesOf, storeLength, clea
 use Rattle.store.specs.Store.{SoundBook}
 use Rattle.book.specs.declared.Answer.{Answer}
 use Rattle.book.specs.declared.Answer.the-variants.{Done, Refused}
-use Rattle.book.specs.Calls.{omap, present, weigh, Step, refuse, tell, change, told, onStore, clearStore, placeSource, withdrawSource}
+use Rattle.ledger.specs.Lists.{omap, present, weigh}
+use Rattle.book.specs.Calls.{Step, refuse, tell, change, told, onStore, clearStore, placeSource, withdrawSource}
 use Rattle.book.specs.Calls.{placeReceiver, withdrawReceiver, askReceiver}
 use Rattle.book.specs.History.{Call, Clear, PlaceSource, WithdrawSource, PlaceReceiver, WithdrawReceiver, Ask, perform, storeAfter, RealCall}
 use Rattle.book.specs.History.{Real, accepted, kept, sourceMove, receiverMove, allLeave, lastAt, row, standingSource, standingReceiver}

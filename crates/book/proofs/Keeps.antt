@@ -21,12 +21,13 @@ use Rattle.store.specs.Store.{Book, book, damaged, bookOf, storeLength, cleared
 use Rattle.store.proofs.Laws.{cleared, sound-book, book-bytes, sound-source, sound-held}
 use Rattle.book.specs.declared.Answer.{Answer}
 use Rattle.book.specs.declared.Answer.the-variants.{Done, Refused}
-use Rattle.book.specs.Calls.{omap, present, every, Step, refuse, tell, change, allow, intoFree, fromUsed, firstBar, unlessBarred, unlessLate}
-use Rattle.book.specs.Calls.{more, less, hasRoom, canReturn, weigh, placeSource, withdrawSource, placeReceiver, withdrawReceiver, askReceiver, told, onStore, clearStore}
+use Rattle.ledger.specs.Lists.{omap, present, every, firstBar, weigh}
+use Rattle.book.specs.Calls.{Step, refuse, tell, change, allow, intoFree, fromUsed, unlessBarred, unlessLate}
+use Rattle.book.specs.Calls.{more, less, hasRoom, canReturn, placeSource, withdrawSource, placeReceiver, withdrawReceiver, askReceiver, told, onStore, clearStore}
 use Rattle.book.specs.History.{Call, Clear, PlaceSource, WithdrawSource, PlaceReceiver, WithdrawReceiver, Ask, perform, RealCall}
 use Rattle.book.proofs.Entries.{slot-allowed}
-use Rattle.book.proofs.Rounds.{and-both}
-use Rattle.book.proofs.Seats.{less-sound}
+use Rattle.ledger.proofs.Rounds.{and-both}
+use Rattle.book.proofs.Rounded.{less-sound}
 use Rattle.book.proofs.Slots.{never}
 use Rattle.book.proofs.Accounts.{lanes-are, weigh-sound}
 use Rattle.book.proofs.Gates.{bars-pass}

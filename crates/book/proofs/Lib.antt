@@ -1,8 +1,7 @@
--- Laws of the book's calls: what a slot tells, the source's round, the gathering at a receiver; then the history theorems.
+-- Laws of the book's calls: how an answer follows, a source that comes or goes; then the history theorems.
 pub mod Entries
-pub mod Rounds
-pub mod Seats
-pub mod Gathers
+pub mod Turns
+pub mod Rounded
 pub mod Slots
 pub mod Accounts
 pub mod Gates

@@ -11,7 +11,7 @@ use Rattle.index.specs.Index.{ldenOf, lnightOf}
 use Rattle.store.specs.declared.Held.{Held}
 use Rattle.store.specs.Store.{sourceSlots, receiverSlots, SourceStands}
 use Rattle.book.specs.declared.Answer.the-variants.{Levels}
-use Rattle.book.specs.Calls.{present, weigh}
+use Rattle.ledger.specs.Lists.{present, weigh}
 use Rattle.book.specs.History.{Call, answerTo, Real, All, accepted, kept, sourceMove, receiverMove, lastAt, row, standingSource}
 use Rattle.book.specs.History.{standingReceiver, standingSources, standingReceivers, levelsOf, SumsOf, Hears, Put, Placing, source, receiver}
 use Rattle.book.specs.History.{asCall, calls, sourcesIn, receiversIn, entriesOf, Apart, Rebuilds, AllAccepted, Rebuilt, inPlace, anew}

@@ -13,7 +13,8 @@ use lib.Dec.{eqb}
 use lib.ListN.{length, getD, set, replicate, length-set, length-replicate, getD-replicate}
 use lib.Seq.{getD-set-same, getD-set-other, ext-getD}
 use borrow.Author.Tests.{eqb-true, eqb-false, eq-eqb, ne-eqb}
-use Rattle.book.specs.Calls.{omap, used, present, every, sumOf}
+use Rattle.ledger.specs.Lists.{omap, present, every, sumOf}
+use Rattle.book.specs.Calls.{used}
 use Rattle.book.specs.History.{All, Move, enter, leave, allLeave, still, lastAt, row, Put, entriesOf, Apart, inPlace}
 
 -- where `cc` finds that two constructors are equal

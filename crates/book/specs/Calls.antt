@@ -1,57 +1,36 @@
 -- What each call of the book answers and leaves, in terms of the book: two lists of slots (document 01, 'What the book holds').
 -- A call on bytes reads them as a book, asks one of these definitions, and writes the book that it gives.
-use Prim.Native.Nat.{ℕ, zero, suc, _+_}
+use Prim.Native.Nat.{ℕ}
 use mathlib.Core.Bool.{Bool, true, false, cond, _&&_}
 use mathlib.Core.Option.{Option, none, some}
-use mathlib.Core.List.{List, [], _∷_, map}
+use mathlib.Core.List.{List, map}
 use lib.ListN.{length, getD, set}
 use lib.Dec.{eqb}
 use Rattle.answer.specs.declared.Refusal.{Refusal}
-use Rattle.answer.specs.declared.Refusal.the-variants.{Damaged, Taken, Vacant, TooNear, TooFar, TooLong, TooLoud}
+use Rattle.answer.specs.declared.Refusal.the-variants.{Damaged, Taken, Vacant}
 use Rattle.road.specs.declared.Source.{Source}
 use Rattle.road.specs.declared.Receiver.{Receiver}
-use Rattle.road.specs.declared.Shares.{Shares}
-use Rattle.road.specs.declared.Bar.{Bar}
-use Rattle.road.specs.declared.Bar.the-variants.{Near, Far, Long, Loud}
 use Rattle.road.specs.declared.Pair.{Pair}
 use Rattle.road.specs.declared.Pair.the-variants.{Heard, Barred}
 use Rattle.road.specs.declared.Verdict.{Verdict}
 use Rattle.road.specs.declared.Verdict.the-variants.{Allowed}
 use Rattle.road.specs.declared.Verdict.the-variants.{Refused as Barring}
-use Rattle.road.specs.Reach.{shareOf, sharesOf, pairOf}
+use Rattle.road.specs.Reach.{sharesOf, pairOf}
 use Rattle.road.specs.Judge.{sourceVerdict, receiverVerdict, slotVerdict, lastSource, lastReceiver}
 use Rattle.index.specs.Index.{ldenOf, lnightOf}
-use Rattle.store.specs.declared.Account.{Account}
 use Rattle.store.specs.declared.Held.{Held}
 use Rattle.store.specs.Account.{plusOf, minusOf, coversB, roomB}
 use Rattle.store.specs.Store.{Book, book, damaged, bookOf, bytesOf, storeLength, clearedBytes}
+use Rattle.ledger.specs.Lists.{omap, present, every, firstBar, weigh}
 use Rattle.book.specs.declared.Answer.{Answer}
 use Rattle.book.specs.declared.Answer.the-variants.{Done, Levels, Refused}
 
--- ---- lists of slots
-
-abbrev pub omap : {A B : Type 0} → (A → B) → Option A → Option B
-omap f none = none
-omap f (some a) = some (f a)
+-- ---- slots: lists of them, the first bar and an account worked out afresh are in the ledger's specs/Lists.antt
 
 module _ {A : Type 0} where
   abbrev pub used : Option A → Bool
   used none = false
   used (some a) = true
-
-  -- what the used slots hold, in the slots' order
-  abbrev pub present : List (Option A) → List A
-  present [] = []
-  present (none ∷ l) = present l
-  present (some a ∷ l) = a ∷ present l
-
-  abbrev pub every : (A → Bool) → List A → Bool
-  every p [] = true
-  every p (a ∷ l) = p a && every p l
-
-  abbrev pub sumOf : (A → ℕ) → List A → ℕ
-  sumOf f [] = 0
-  sumOf f (a ∷ l) = f a + sumOf f l
 
 -- ---- what a call comes to: refused, told without a change, or another book
 
@@ -75,24 +54,7 @@ module _ {A : Type 0} where
   fromUsed none k = refuse Vacant
   fromUsed (some a) k = k a
 
--- refusals 10 to 13, with the slot of the other party
-abbrev pub barAt : ℕ → Bar → Refusal
-barAt j Near = TooNear j
-barAt j Far = TooFar j
-barAt j Long = TooLong j
-barAt j Loud = TooLoud j
-
-abbrev pub orBar : ℕ → Pair → Option Refusal → Option Refusal
-orBar j (Heard h) o = o
-orBar j (Barred b) o = some (barAt j b)
-
-module _ {A : Type 0} where
-  -- the first pair that is barred, from the lowest slot on
-  unfoldable pub firstBar : (A → Pair) → ℕ → List (Option A) → Option Refusal
-  firstBar pair j [] = none
-  firstBar pair j (none ∷ l) = firstBar pair (suc j) l
-  firstBar pair j (some a ∷ l) = orBar j (pair a) (firstBar pair (suc j) l)
-
+-- refusals 10 to 13, by the first bar
 abbrev pub unlessBarred : Option Refusal → Step → Step
 unlessBarred none k = k
 unlessBarred (some r) k = refuse r
@@ -122,13 +84,6 @@ isHeard (Barred b) = false
 
 abbrev pub canReturn : Source → Held → Bool
 canReturn s x = isHeard (pairOf s (x .who)) && coversB (x .sums) (sharesOf s (x .who))
-
--- a receiver's account, worked out afresh: three sums over the sources
-abbrev pub weigh : List Source → Receiver → Held
-weigh ss r = record {
-  who = r;
-  sums = record { day = sumOf (λ s. shareOf s r 0) ss; evening = sumOf (λ s. shareOf s r 1) ss; night = sumOf (λ s. shareOf s r 2) ss };
-}
 
 -- ---- the calls: slot and fields first (5, 6, 7), then as each says
 

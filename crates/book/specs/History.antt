@@ -19,7 +19,8 @@ use Rattle.store.specs.declared.Held.{Held}
 use Rattle.store.specs.Store.{Book, damaged, bookOf, clearedBytes, sourceSlots, receiverSlots}
 use Rattle.book.specs.declared.Answer.{Answer}
 use Rattle.book.specs.declared.Answer.the-variants.{Done, Levels, Refused}
-use Rattle.book.specs.Calls.{omap, used, present, sumOf, isHeard, placeSource, withdrawSource, placeReceiver, withdrawReceiver, askReceiver}
+use Rattle.ledger.specs.Lists.{omap, present, sumOf}
+use Rattle.book.specs.Calls.{used, isHeard, placeSource, withdrawSource, placeReceiver, withdrawReceiver, askReceiver}
 use Rattle.book.specs.Calls.{onStore, clearStore}
 
 -- ---- a history: any calls, the latest first, refused ones among them

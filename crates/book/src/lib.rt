@@ -1,7 +1,5 @@
 // The book: sources and receivers in a store that the caller lends, and the calls on it.
-// What each call answers and leaves, for every store, is a definition of specs/Calls.antt; no call requires anything.
-mod gather;
-mod round;
+// What each call answers and leaves, for every store, is a definition of specs/Calls.antt; no call here requires anything.
 pub mod sound;
 
 use answer::Refusal;

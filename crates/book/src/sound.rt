@@ -1,10 +1,10 @@
 // The calls on a store that is known to be undamaged: the same answers with no look for damage.
 // Whoever watches a store from its clearing on can use these; each keeps it undamaged.
 use crate::Answer;
-use crate::gather;
-use crate::round;
-use crate::round::Stop;
 use answer::Refusal;
+use ledger::gather;
+use ledger::round;
+use ledger::round::Stop;
 use road::Receiver;
 use road::Source;
 use road::Verdict;

@@ -12,7 +12,6 @@ use road::Traffic;
 use road::Verdict;
 use road::emission;
 use road::judge;
-use road::reach;
 ghost use mathlib.Core.Path.{_≡_};
 ghost use Prim.Native.Nat.{_≤_};
 ghost use Rattle.level.specs.Table.{table};
@@ -28,7 +27,7 @@ enum Outcome {
 }
 
 // The point.
-fn point() -> Receiver
+pub fn point() -> Receiver
     ensures { λ r. ⌜ r ≡ home ⌝ }
 {
     Receiver {
@@ -39,7 +38,7 @@ fn point() -> Receiver
 }
 
 // The road, with its middle at x and of some length.
-fn street(x: u32, length: u32) -> Source
+pub fn street(x: u32, length: u32) -> Source
     ensures { λ s. ⌜ (s .x ≡ x) × (s .y ≡ 100000) ⌝ }
 {
     let busy = Traffic { m: 1000000, p: 0 };

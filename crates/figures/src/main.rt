@@ -1,10 +1,12 @@
-// Runs the figures worked by hand (document 01) through the functions that the book calls, and writes one line for each.
-// The lines to compare with, in the file stdout, are from the paper.
+// Runs the figures worked by hand (document 01) through the functions that the book calls, and through the book.
+// It writes one line for each; the lines to compare with, in the file stdout, are worked from the paper.
 mod cases;
 mod print;
 mod terms;
+mod through_book;
 
 fn main() {
     terms::all();
     cases::all();
+    through_book::all();
 }

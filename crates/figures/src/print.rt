@@ -44,3 +44,11 @@ pub fn word(of: &[u8], text: &[u8]) {
 pub fn refusal(of: &[u8], why: Refusal) {
     number(of, b"refused ", answer::number(why) as u64);
 }
+
+// A refusal, by its number and its place.
+pub fn refusal_at(of: &[u8], why: Refusal) {
+    io::write_all(STDOUT_FILENO, of);
+    io::write_all(STDOUT_FILENO, b"refused ");
+    io::print_decimal(STDOUT_FILENO, answer::number(why) as u64);
+    number(b" at ", b"", answer::place(why) as u64);
+}

@@ -21,7 +21,7 @@ use Rattle.road.specs.declared.Shares.{Shares}
 use Rattle.road.specs.declared.Bar.the-variants.{Near, Far, Long, Loud}
 use Rattle.road.specs.declared.Pair.{Pair}
 use Rattle.road.specs.declared.Pair.the-variants.{Heard, Barred}
-use Rattle.road.specs.declared.reach.Part.{Part}
+use Rattle.road.specs.declared.Part.{Part}
 use Rattle.road.specs.Term.{term, _⊕_, period}
 use Rattle.road.specs.Emission.{emissionLevel}
 use Rattle.road.specs.Reach.{square, planSquare, spaceSquare, lengthTerm, distanceTerm, groundTerm, wallsTerm, weatherOf, weatherTerm, rayHeight, shareLevel, energyShare, tooLoud, shareOf, loudIn, sharesOf, pairOf}

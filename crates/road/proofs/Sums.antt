@@ -16,7 +16,7 @@ use Rattle.road.specs.declared.Traffic.{Traffic}
 use Rattle.road.specs.declared.Source.{Source}
 use Rattle.road.specs.declared.Voice.{Voice}
 use Rattle.road.specs.declared.emission.Pace.{Pace}
-use Rattle.road.specs.declared.reach.Part.{Part}
+use Rattle.road.specs.declared.Part.{Part}
 use Rattle.road.specs.Term.{term, adds, takes, _⊕_, period}
 use Rattle.road.specs.Emission.{vehicles, trafficTerm, carSpeed, truckSpeed, carLevel, truckLevel, truckGain, speedTerm, surfaceTable, surfaceColumn, surfaceEntry, surfaceTerm, gradientTerm, reflectionTerm, emissionLevel}
 use Rattle.road.specs.Reach.{lengthTerm, distanceTerm, groundTerm, wallsTerm, weatherTerm, energyShare, tooLoud}

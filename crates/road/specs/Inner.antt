@@ -1,4 +1,4 @@
--- Values that only inner functions of this crate hand on: what a road sends out, and a share before it is told to the caller.
+-- Values that only inner functions of this crate and of reach hand on: what a road sends out, and a share before it is told to the caller.
 -- A reader of the promises can pass over this file.
 use Prim.Native.Nat.{ℕ, _+_, _-_, _*_, _≤_}
 use mathlib.Core.Bool.{Bool, true, false, cond, not, _||_}
@@ -11,7 +11,7 @@ use Rattle.road.specs.declared.Term.{Term}
 use Rattle.road.specs.declared.Source.{Source}
 use Rattle.road.specs.declared.Traffic.{Traffic}
 use Rattle.road.specs.declared.Voice.{Voice}
-use Rattle.road.specs.declared.reach.Part.{Part}
+use Rattle.road.specs.declared.Part.{Part}
 use Rattle.road.specs.declared.emission.Pace.{Pace}
 use Rattle.road.specs.Term.{term, _⊕_, period}
 use Rattle.road.specs.Emission.{emissionLevel, trafficTerm, surfaceTerm, gradientTerm, reflectionTerm, carSpeed, truckSpeed, truckGain, carLevel}

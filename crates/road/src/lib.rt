@@ -1,8 +1,7 @@
-// Roads and the points where people live: what a road gives out, and what of it reaches a point (VBUS sections 3.4 to 3.8, 3.10).
-// Each term of the method is a definition of its own in specs/; the code here gives exactly their values.
+// Roads and the points where people live: which fields are allowed, and what a road gives out (VBUS sections 3.4, 3.5, 3.8).
+// Each term of the method is a definition of its own in specs/, those of the crate reach too; the code gives exactly their values.
 pub mod emission;
 pub mod judge;
-pub mod reach;
 
 use answer::Refusal;
 
@@ -47,6 +46,12 @@ pub struct Term {
 pub struct Voice {
     pub sounds: bool,
     pub level: Term,
+}
+
+// A share before it is told: too loud, or an energy.
+pub struct Part {
+    pub loud: bool,
+    pub energy: u64,
 }
 
 // The energies of one road at one point, by day, in the evening and at night.

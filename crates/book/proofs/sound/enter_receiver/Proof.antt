@@ -15,8 +15,9 @@ use Rattle.store.specs.Store.{book, bookOf, bytesOf}
 use Rattle.store.proofs.Laws.{undamaged, set-held}
 use Rattle.book.specs.declared.Answer.{Answer}
 use Rattle.book.specs.declared.Answer.the-variants.{Done}
-use Rattle.book.specs.Calls.{change, told, intoFree, unlessBarred, firstBar, present, weigh}
-use Rattle.book.proofs.Entries.{seat-free, seat-used, stop-some, stop-none}
+use Rattle.ledger.specs.Lists.{firstBar, present, weigh}
+use Rattle.book.specs.Calls.{change, told, intoFree, unlessBarred}
+use Rattle.ledger.proofs.Entries.{seat-free, seat-used, stop-some, stop-none}
 use Rattle.book.proofs.sound.enter_receiver.Statement.{statement}
 use Rattle.book.proofs.sound.enter_receiver.Tie as tie
 

@@ -14,9 +14,10 @@ use Rattle.store.specs.Store.{Book, book, bookOf, bytesOf}
 use Rattle.store.proofs.Laws.{undamaged, sound-book, set-source}
 use Rattle.book.specs.declared.Answer.{Answer}
 use Rattle.book.specs.declared.Answer.the-variants.{Done}
-use Rattle.book.specs.Calls.{change, told, intoFree, unlessBarred, unlessLate, firstBar, present, every, omap, more, hasRoom}
-use Rattle.book.proofs.Entries.{lane-free, lane-used}
-use Rattle.book.proofs.Seats.{come-barred, come-clear, come-room, come-written, come-stand}
+use Rattle.ledger.specs.Lists.{firstBar, present, every, omap}
+use Rattle.book.specs.Calls.{change, told, intoFree, unlessBarred, unlessLate, more, hasRoom}
+use Rattle.ledger.proofs.Entries.{lane-free, lane-used}
+use Rattle.book.proofs.Rounded.{come-barred, come-clear, come-room, come-written, come-stand}
 use Rattle.book.proofs.sound.enter_source.Statement.{statement}
 use Rattle.book.proofs.sound.enter_source.Tie as tie
 

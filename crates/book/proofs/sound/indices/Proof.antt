@@ -19,8 +19,8 @@ use Rattle.book.specs.declared.Answer.{Answer}
 use Rattle.book.specs.declared.Answer.the-variants.{Levels}
 use Rattle.book.specs.Calls.{Step, tell, told, fromUsed}
 use Rattle.index.specs.Index.{ldenOf, lnightOf}
-use Rattle.book.proofs.Entries.{seat-free, seat-used, seat-stands}
-use Rattle.book.proofs.Rounds.{and-both}
+use Rattle.ledger.proofs.Entries.{seat-free, seat-used, seat-stands}
+use Rattle.ledger.proofs.Rounds.{and-both}
 use Rattle.book.proofs.sound.indices.Statement.{statement}
 use Rattle.book.proofs.sound.indices.Tie as tie
 

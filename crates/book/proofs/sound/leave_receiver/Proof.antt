@@ -13,7 +13,7 @@ use Rattle.store.proofs.Laws.{undamaged, set-held}
 use Rattle.book.specs.declared.Answer.{Answer}
 use Rattle.book.specs.declared.Answer.the-variants.{Done}
 use Rattle.book.specs.Calls.{Step, change, told, fromUsed}
-use Rattle.book.proofs.Entries.{seat-free, seat-used}
+use Rattle.ledger.proofs.Entries.{seat-free, seat-used}
 use Rattle.book.proofs.sound.leave_receiver.Statement.{statement}
 use Rattle.book.proofs.sound.leave_receiver.Tie as tie
 

@@ -13,9 +13,10 @@ use Rattle.store.specs.Store.{Book, book, bookOf, bytesOf}
 use Rattle.store.proofs.Laws.{undamaged, sound-book, set-source}
 use Rattle.book.specs.declared.Answer.{Answer}
 use Rattle.book.specs.declared.Answer.the-variants.{Done}
-use Rattle.book.specs.Calls.{Step, change, told, fromUsed, unlessLate, present, every, omap, less, canReturn}
-use Rattle.book.proofs.Entries.{lane-free, lane-used, lane-stands}
-use Rattle.book.proofs.Seats.{leave-room, leave-written, leave-stand}
+use Rattle.ledger.specs.Lists.{present, every, omap}
+use Rattle.book.specs.Calls.{Step, change, told, fromUsed, unlessLate, less, canReturn}
+use Rattle.ledger.proofs.Entries.{lane-free, lane-used, lane-stands}
+use Rattle.book.proofs.Rounded.{leave-room, leave-written, leave-stand}
 use Rattle.book.proofs.sound.leave_source.Statement.{statement}
 use Rattle.book.proofs.sound.leave_source.Tie as tie
 

@@ -1,0 +1,33 @@
+-- `bar_at` names the refusal of a bar. Assumes nothing.
+use mathlib.Core.Path.{_≡_, refl, sym, ap, ap₂, _∙_}
+use borrow.Author.Needs.{needs}
+use Rattle.ledger.specs.Lists.{barAt}
+use Rattle.ledger.proofs.round.bar_at.Statement.{statement}
+use Rattle.ledger.proofs.round.bar_at.Tie as tie
+
+enum-told : tie.Need-enum-told
+enum-told c = search needs
+
+enum-told-2 : tie.Need-enum-told-2
+enum-told-2 c = search needs
+
+enum-told-3 : tie.Need-enum-told-3
+enum-told-3 c = search needs
+
+enum-told-4 : tie.Need-enum-told-4
+enum-told-4 c = search needs
+
+returns : tie.Need-returns
+returns c = ap (barAt (c .before .before .args .slot)) (sym (c .enum-told .given .1))
+
+returns-2 : tie.Need-returns-2
+returns-2 c = ap (barAt (c .before .before .args .slot)) (sym (c .enum-told2 .given .1))
+
+returns-3 : tie.Need-returns-3
+returns-3 c = ap (barAt (c .before .before .args .slot)) (sym (c .enum-told3 .given .1))
+
+returns-4 : tie.Need-returns-4
+returns-4 c = ap (barAt (c .before .before .args .slot)) (sym (c .enum-told4 .given .1))
+
+pub bar-at-spec : {M : Type 1} → statement M
+bar-at-spec = tie.close (tie.spec enum-told enum-told-2 enum-told-3 enum-told-4 returns returns-2 returns-3 returns-4)

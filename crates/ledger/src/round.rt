@@ -1,0 +1,223 @@
+// A source's round of the receivers: what each account would be with its shares more or less, before a byte is written.
+// The first pass works every share out once and keeps the seats as they would be; the second pass writes them.
+use answer::Refusal;
+use road::Bar;
+use road::Pair;
+use road::Receiver;
+use road::Source;
+use road::Voice;
+use store::Account;
+use store::Held;
+use store::Seat;
+ghost use mathlib.Core.Path.{_≡_};
+ghost use mathlib.Core.Bool.{true, false};
+ghost use Prim.Native.Nat.{_<_};
+ghost use lib.ListN.{getD};
+ghost use mathlib.Core.Option.{none};
+ghost use Rattle.level.specs.Table.{table};
+ghost use Rattle.road.specs.declared.Verdict.the-variants.{Allowed};
+ghost use Rattle.road.specs.Judge.{sourceVerdict, receiverVerdict};
+ghost use Rattle.road.specs.Inner.{voicesOf};
+ghost use Rattle.store.specs.Store.{damaged, bookOf, bytesOf, book, HeldStands};
+ghost use Rattle.ledger.specs.Lists.{barAt};
+ghost use Rattle.ledger.specs.Ledger.{raisedBy, loweredBy, visitOf, vacant, Rounded, settled, seated, StandingSeats};
+
+// What becomes of a receiver when a source comes or goes.
+pub enum Turn {
+    Moved(Held),
+    Barred(Bar),
+    Late,
+}
+
+// The same for a slot, which may be free.
+pub enum Visit {
+    Free,
+    Turned(Turn),
+}
+
+// Where a round stopped: nowhere, or at a refusal.
+pub enum Stop {
+    Nowhere,
+    At(Refusal),
+}
+
+// A round: where it stopped, whether a sum would leave its bounds, and the seats as they would be.
+pub struct Round {
+    pub stop: Stop,
+    pub late: bool,
+    pub seats: [Seat; 64],
+}
+
+// The refusal of a pair with the slot of the other party.
+pub fn bar_at(slot: u16, bar: Bar) -> Refusal
+    ensures { λ r. ⌜ r ≡ barAt slot bar ⌝ }
+{
+    match bar {
+        Bar::Near => Refusal::TooNear(slot),
+        Bar::Far => Refusal::TooFar(slot),
+        Bar::Long => Refusal::TooLong(slot),
+        Bar::Loud => Refusal::TooLoud(slot),
+    }
+}
+
+// A receiver with a source's shares more.
+fn raised(x: Held, p: Pair) -> Turn
+    ensures { λ r. ⌜ r ≡ raisedBy p x ⌝ }
+{
+    match p {
+        Pair::Barred(bar) => Turn::Barred(bar),
+        Pair::Heard(shares) => {
+            let who = x.who;
+            let sums = x.sums;
+            if sums.room(shares) {
+                let more = sums.plus(shares);
+                return Turn::Moved(Held {
+                    who: who,
+                    sums: more,
+                });
+            }
+            Turn::Late
+        }
+    }
+}
+
+// A receiver with a source's shares less. A pair that is barred could not have been placed.
+fn lowered(x: Held, p: Pair) -> Turn
+    ensures { λ r. ⌜ r ≡ loweredBy p x ⌝ }
+{
+    match p {
+        Pair::Barred(_) => Turn::Late,
+        Pair::Heard(shares) => {
+            let who = x.who;
+            let sums = x.sums;
+            if sums.holds(shares) {
+                let less = sums.minus(shares);
+                return Turn::Moved(Held {
+                    who: who,
+                    sums: less,
+                });
+            }
+            Turn::Late
+        }
+    }
+}
+
+// What becomes of the receiver in a slot.
+fn visit_seat(
+    steps: &[u32; 1000],
+    store: &[u8],
+    j: usize,
+    s: Source,
+    voices: [Voice; 3],
+    adding: bool,
+) -> Visit
+    requires { ⌜ (now steps ≡ table) × (damaged (now store) ≡ false) × (j < 64) × (sourceVerdict s ≡ Allowed) × (voices ≡ voicesOf s) ⌝ }
+    ensures { λ r. ⌜ r ≡ visitOf adding s (getD (bookOf (now (store .entry)) .receivers) j none) ⌝ }
+{
+    let seat = store::receivers::seat(store, j);
+    if !seat.used {
+        return Visit::Free;
+    }
+    let x = seat.held;
+    let who = x.who;
+    let p = reach::pair(steps, s, voices, who);
+    if adding {
+        return Visit::Turned(raised(x, p));
+    }
+    Visit::Turned(lowered(x, p))
+}
+
+// A seat with nobody in it.
+fn vacant() -> Seat
+    ensures { λ r. ⌜ r ≡ vacant ⌝ }
+{
+    Seat {
+        used: false,
+        held: Held {
+            who: Receiver {
+                x: 0,
+                y: 0,
+                height: 0,
+            },
+            sums: Account {
+                day: 0,
+                evening: 0,
+                night: 0,
+            },
+        },
+    }
+}
+
+// The first pass, from the lowest slot on.
+pub fn go_round(
+    steps: &[u32; 1000],
+    store: &[u8],
+    s: Source,
+    voices: [Voice; 3],
+    adding: bool,
+) -> Round
+    requires { ⌜ (now steps ≡ table) × (damaged (now store) ≡ false) × (sourceVerdict s ≡ Allowed) × (voices ≡ voicesOf s) ⌝ }
+    ensures { λ r. ⌜ Rounded adding s (bookOf (now (store .entry)) .receivers) r ⌝ }
+{
+    let empty = vacant();
+    let mut seats = [empty; 64];
+    let mut late = false;
+    let mut j = 0;
+    while j < 64 {
+        match visit_seat(steps, store, j, s, voices, adding) {
+            Visit::Free => {
+                j += 1;
+            }
+            Visit::Turned(turn) => match turn {
+                Turn::Moved(x) => {
+                    seats[j] = Seat {
+                        used: true,
+                        held: x,
+                    };
+                    j += 1;
+                }
+                Turn::Late => {
+                    late = true;
+                    j += 1;
+                }
+                Turn::Barred(bar) => {
+                    return Round {
+                        stop: Stop::At(bar_at(j as u16, bar)),
+                        late: late,
+                        seats: seats,
+                    };
+                }
+            },
+        }
+    }
+    Round {
+        stop: Stop::Nowhere,
+        late: late,
+        seats: seats,
+    }
+}
+
+// A seat that is used is written into its slot; one that is not leaves the slot as it was.
+fn settle(store: &mut [u8], j: usize, seat: Seat)
+    requires { ⌜ (damaged (now store) ≡ false) × (j < 64) × (seat .used ≡ true → HeldStands (seat .held)) ⌝ }
+    ensures { λ _. ⌜ now (store .exit) ≡ bytesOf (settled seat j (bookOf (now (store .entry)))) ⌝ }
+{
+    if !seat.used {
+        return;
+    }
+    let x = seat.held;
+    store::receivers::put_held(store, j, x);
+}
+
+// The second pass: the seats that are used are written.
+pub fn write_seats(store: &mut [u8], seats: [Seat; 64])
+    requires { ⌜ (damaged (now store) ≡ false) × StandingSeats seats ⌝ }
+    ensures { λ _. ⌜ (damaged (now (store .exit)) ≡ false) × (bookOf (now (store .exit)) ≡ book (bookOf (now (store .entry)) .sources) (seated seats (bookOf (now (store .entry)) .receivers))) ⌝ }
+{
+    let mut j = 0;
+    while j < 64 {
+        let seat = seats[j];
+        settle(store, j, seat);
+        j += 1;
+    }
+}

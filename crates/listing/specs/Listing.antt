@@ -1,0 +1,70 @@
+-- The lines of the listing (document 01, 'The listing'), as lists of byte values; a comment has the text that they are in ASCII.
+-- A record that is placed or withdrawn has no line.
+use Prim.Native.Nat.{ℕ, zero, suc, _+_, _/_, _%_}
+use mathlib.Core.Bool.{cond}
+use mathlib.Core.List.{List, [], _∷_, _++_}
+use lib.Dec.{ltb}
+use lib.ListN.{length, drop}
+use Rattle.answer.specs.declared.Refusal.{Refusal}
+use Rattle.answer.specs.Table.{numberOf}
+use Rattle.index.specs.declared.Index.{Index}
+use Rattle.index.specs.declared.Index.the-variants.{Quiet, Tenths}
+use Rattle.clerk.specs.declared.Outcome.{Outcome}
+use Rattle.clerk.specs.declared.Outcome.the-variants.{Done, Levels, Refused}
+
+-- the last digit of n, from 0 (48) to 9 (57)
+abbrev pub digit : ℕ → ℕ
+digit n = 48 + n % 10
+
+-- the digits of n in so many turns at most, none of them for 0: those of n / 10, then its last
+unfoldable pub digitsIn : ℕ → ℕ → List ℕ
+digitsIn zero n = []
+digitsIn (suc turns) zero = []
+digitsIn (suc turns) (suc m) = digitsIn turns (suc m / 10) ++ (digit (suc m) ∷ [])
+
+-- 'The listing': a number without leading zeros, 0 for none
+unfoldable pub decimal : ℕ → List ℕ
+decimal zero = 48 ∷ []  -- 0
+decimal (suc m) = digitsIn (suc m) (suc m)
+
+-- 'The listing': a slot or the number of a refusal, each below 100, in two digits
+abbrev pub twoDigits : ℕ → List ℕ
+twoDigits n = digit (n / 10) ∷ digit n ∷ []
+
+-- 'The listing': a level has its whole part, a point and one digit; quiet is --.-
+abbrev pub levelText : Index → List ℕ
+levelText Quiet = 45 ∷ 45 ∷ 46 ∷ 45 ∷ []  -- --.-
+levelText (Tenths t) = decimal (t / 10) ++ (46 ∷ digit t ∷ [])  -- . and the tenth
+
+-- 'The listing': an ask prints n, R and two-digit slot, L_DEN, L_Night
+unfoldable pub askLine : ℕ → ℕ → Index → Index → List ℕ
+askLine n slot den night =
+    decimal n
+    ++ (32 ∷ 82 ∷ twoDigits slot)  -- a space, R
+    ++ (32 ∷ levelText den)  -- a space
+    ++ (32 ∷ levelText night)  -- a space
+    ++ (10 ∷ [])  -- a line feed
+
+-- 'The listing': a refusal prints n, E and two-digit number
+unfoldable pub refusalLine : ℕ → Refusal → List ℕ
+refusalLine n why =
+    decimal n
+    ++ (32 ∷ 69 ∷ twoDigits (numberOf why))  -- a space, E
+    ++ (10 ∷ [])  -- a line feed
+
+-- 'The listing': what a record prints, by its outcome
+abbrev pub lineOf : ℕ → Outcome → List ℕ
+lineOf n Done = []
+lineOf n (Levels slot den night) = askLine n slot den night
+lineOf n (Refused why) = refusalLine n why
+
+-- 'The listing': the last line is END and the number of records tried
+unfoldable pub endLine : ℕ → List ℕ
+endLine n =
+    (69 ∷ 78 ∷ 68 ∷ 32 ∷ [])  -- END, a space
+    ++ decimal n
+    ++ (10 ∷ [])  -- a line feed
+
+-- a line at the front of the bytes that are lent, and its length; in less than 64 bytes nothing is written
+unfoldable pub put : List ℕ → List ℕ → ℕ × List ℕ
+put line out = cond (ltb (length out) 64) (0, out) (length line, line ++ drop (length line) out)

@@ -1,0 +1,120 @@
+-- `hear` puts the three periods together. Assumes nothing.
+use mathlib.Core.Path.{_≡_, refl, sym, ap, ap₂, _∙_}
+use Prim.Native.Nat.{ℕ, _+_, _-_, _*_, _/_, _≤_, _<_}
+use native.Mathlib.Omega.{arith}
+use borrow.Author.Needs.{needs}
+use mathlib.Core.Bool.{Bool, true, false, _||_}
+use borrow.Author.Tests.{not-true}
+use mathlib.Core.List.{List}
+use lib.ListN.{getD}
+use Rattle.root.specs.Root.{rootOf}
+use Rattle.root.proofs.Laws.{root-settled}
+use Rattle.road.specs.declared.Term.{Term}
+use Rattle.road.specs.declared.Voice.{Voice}
+use Rattle.road.specs.declared.Bar.the-variants.{Loud}
+use Rattle.road.specs.declared.Pair.{Pair}
+use Rattle.road.specs.declared.Pair.the-variants.{Heard, Barred}
+use Rattle.road.specs.declared.Part.{Part}
+use Rattle.road.specs.Term.{_⊕_}
+use Rattle.road.specs.Reach.{distanceTerm, groundTerm, weatherTerm, weatherOf}
+use Rattle.road.specs.Inner.{silent, partOf, partIn, told, hearOf}
+use Rattle.road.proofs.Sums.{Small}
+use Rattle.road.proofs.Pairs.{Reached, reached, small-way}
+use Rattle.reach.proofs.hear.Statement.{statement}
+use Rattle.reach.proofs.hear.Tie as tie
+
+root-requires : tie.Need-root-requires
+root-requires c κs = search needs
+
+root-requires-2 : tie.Need-root-requires-2
+root-requires-2 c κs = search needs
+
+-- the two roots are in range
+far : (c : tie.After-root) → Reached (c .root .result)
+far c = let p = c .before .pre in reached (c .before .args .q) _ (omega (arith, p .2, p .3)) (p .4) (c .root .ensures)
+
+near : (c : tie.After-root2) → Reached (c .root2 .result)
+near c = let p = c .before .before .pre in reached (c .before .before .args .q0) _ (p .2) (omega (arith, p .3, p .4)) (c .root2 .ensures)
+
+way-requires : tie.Need-way-requires
+way-requires c κs =
+    let p = c .before .before .pre in
+    (p .0, omega (arith, p .2, p .3), p .4, p .5, far (c .before) .some, far (c .before) .most)
+
+-- the way is small
+short : (c : tie.After-way) → Small 100000 (c .way .result)
+short c =
+    let a = c .before .before .before .args in
+    let p = c .before .before .before .pre in
+    rw (c .way .ensures) (small-way (a .q) (c .before .before .root .result) (a .h) (omega (arith, p .2, p .3)) (p .4) (far (c .before .before) .most))
+
+array-copy-out-share : tie.Need-array-copy-out-share
+array-copy-out-share c = search needs
+
+share-requires : tie.Need-share-requires
+share-requires c κs =
+    let w = c .before in
+    let p = w .before .before .before .pre in
+    ((p .0, p .1 .day, short w .up, short w .down), (omega arith, p .5, near (w .before) .some, near (w .before) .most))
+
+array-copy-out-share-2 : tie.Need-array-copy-out-share-2
+array-copy-out-share-2 c = search needs
+
+share-requires-2 : tie.Need-share-requires-2
+share-requires-2 c κs =
+    let w = c .before .before .before in
+    let p = w .before .before .before .pre in
+    ((p .0, p .1 .evening, short w .up, short w .down), (omega arith, p .5, near (w .before) .some, near (w .before) .most))
+
+array-copy-out-share-3 : tie.Need-array-copy-out-share-3
+array-copy-out-share-3 c = search needs
+
+share-requires-3 : tie.Need-share-requires-3
+share-requires-3 c κs =
+    let w = c .before .before .before .before .before in
+    let p = w .before .before .before .pre in
+    ((p .0, p .1 .night, short w .up, short w .down), (omega arith, p .5, near (w .before) .some, near (w .before) .most))
+
+-- the share by the way and the root that were found is the part of the period
+heard : (c : tie.After-way) (i : ℕ) (x : Part)
+    → x ≡ partOf (getD (c .before .before .before .args .t2) i silent) (c .way .result ⊕ weatherTerm (weatherOf i) (c .before .before .before .args .h) (c .before .root2 .result))
+    → x ≡ partIn (c .before .before .before .args .t2) (c .before .before .before .args .q0) (c .before .before .before .args .q) (c .before .before .before .args .h) i
+heard c i x e =
+    let a = c .before .before .before .args in
+    let f : c .before .before .root .result ≡ rootOf (a .q) = root-settled (a .q) _ (c .before .before .root .ensures) in
+    let n : c .before .root2 .result ≡ rootOf (a .q0) = root-settled (a .q0) _ (c .before .root2 .ensures) in
+    let w : c .way .result ≡ distanceTerm (a .q) (rootOf (a .q)) ⊕ groundTerm (a .h) (rootOf (a .q)) =
+    c .way .ensures ∙ ap (λ (r : ℕ). distanceTerm (a .q) r ⊕ groundTerm (a .h) r) f in
+    e ∙ (λ j. partOf (getD (a .t2) i silent) (w j ⊕ weatherTerm (weatherOf i) (a .h) (n j)))
+
+told-loud : (a b d : Part) → (a .loud || b .loud || d .loud) ≡ true → told a b d ≡ Barred Loud
+told-loud a b d e = rw e
+
+told-heard : (a b d : Part) → (a .loud || b .loud || d .loud) ≡ false → told a b d ≡ Heard (record { day = a .energy; evening = b .energy; night = d .energy })
+told-heard a b d e = rw e
+
+module _ (c : tie.After-share3) where
+  abbrev way : tie.After-way
+  way = c .before .before .before .before .before .before
+
+  parts : told (c .before .before .before .before .share .result) (c .before .before .share2 .result) (c .share3 .result)
+      ≡ hearOf (way .before .before .before .args .t2) (way .before .before .before .args .q0) (way .before .before .before .args .q) (way .before .before .before .args .h)
+  unfolding hearOf
+  parts =
+      let day = heard way 0 _ (c .before .before .before .before .share .ensures) in
+      let evening = heard way 1 _ (c .before .before .share2 .ensures) in
+      let night = heard way 2 _ (c .share3 .ensures) in
+      λ i. told (day i) (evening i) (night i)
+
+returns : tie.Need-returns
+returns c =
+    let s = c .before .before .before .before in
+    sym (told-loud (s .before .before .before .before .share .result) (s .before .before .share2 .result) (s .share3 .result) (c .if1 .taken)) ∙ parts s
+
+returns-2 : tie.Need-returns-2
+returns-2 c =
+    let s = c .before .before .before .before in
+    sym (told-heard (s .before .before .before .before .share .result) (s .before .before .share2 .result) (s .share3 .result) (c .if1 .left)) ∙ parts s
+
+pub hear-spec : {M : Type 1} → statement M
+hear-spec = tie.close (tie.spec root-requires root-requires-2 way-requires array-copy-out-share share-requires array-copy-out-share-2 share-requires-2 array-copy-out-share-3 share-requires-3 returns returns-2)

@@ -1,0 +1,167 @@
+// What of a road reaches a point (VBUS sections 3.4, 3.6, 3.7, 3.10): a pair's three shares, or why it is barred.
+// The terms are those of road's specs/Reach.antt; what the road sends out has been worked out before.
+use road::Bar;
+use road::Pair;
+use road::Part;
+use road::Receiver;
+use road::Shares;
+use road::Source;
+use road::Term;
+use road::Voice;
+ghost use mathlib.Core.Path.{_≡_};
+ghost use mathlib.Core.List.{List};
+ghost use Prim.Native.Nat.{_+_, _-_, _*_, _<_, _≤_};
+ghost use Rattle.level.specs.Table.{table};
+ghost use Rattle.root.specs.Root.{rootOf};
+ghost use Rattle.road.specs.declared.Verdict.the-variants.{Allowed};
+ghost use Rattle.road.specs.Term.{takes, _⊕_};
+ghost use Rattle.road.specs.Reach.{apart, square, planSquare, distanceTerm, groundTerm, weatherTerm, pairOf};
+ghost use Rattle.road.specs.Judge.{sourceVerdict, receiverVerdict};
+ghost use Rattle.road.specs.Inner.{voicesOf, partOf, hearOf, Modest, Moderate};
+
+// How far two numbers are apart.
+fn apart(a: u32, b: u32) -> u64
+    ensures { λ r. ⌜ r ≡ apart a b ⌝ }
+{
+    if a < b {
+        return (b - a) as u64;
+    }
+    (a - b) as u64
+}
+
+// The squared distance in the plan.
+pub fn plan(s: Source, r: Receiver) -> u64
+    requires { ⌜ (s .x < 16777216) × (s .y < 16777216) × (r .x < 16777216) × (r .y < 16777216) ⌝ }
+    ensures { λ q. ⌜ q ≡ planSquare s r ⌝ }
+{
+    let dx = apart(s.x, r.x);
+    let dy = apart(s.y, r.y);
+    let across = dx * dx;
+    let along = dy * dy;
+    across + along
+}
+
+// The squared distance in space, by that in the plan and the point's height: the source is 50 cm above the road.
+pub fn space(q0: u64, height: u16) -> u64
+    requires { ⌜ (q0 ≤ 600000000000000) × (50 ≤ height) × (height ≤ 1000) ⌝ }
+    ensures { λ q. ⌜ q ≡ q0 + square (height - 50) ⌝ }
+{
+    let rise = (height - 50) as u64;
+    let square = rise * rise;
+    q0 + square
+}
+
+// Equations 11 and 12: what the ground takes off.
+pub fn ground(h: u64, r: u64) -> u32
+    requires { ⌜ (h ≤ 1000) × (1 ≤ r) × (r ≤ 1000000) ⌝ }
+    ensures { λ d. ⌜ d ≡ groundTerm h r .down ⌝ }
+{
+    let top = h * (1700 * r + 3000000);
+    let square = r * r;
+    let q = top / square;
+    if 480 < q {
+        return 0;
+    }
+    (480 - q) as u32
+}
+
+// Equations 10 to 12: distance, air and ground, by the squared distance and its root.
+pub fn way(steps: &[u32; 1000], q: u64, r: u64, h: u64) -> Term
+    requires { ⌜ (now steps ≡ table) × (1 ≤ q) × (q ≤ 40000000000) × (h ≤ 1000) × (1 ≤ r) × (r ≤ 1000000) ⌝ }
+    ensures { λ t. ⌜ t ≡ distanceTerm q r ⊕ groundTerm h r ⌝ }
+{
+    let down = level::lv(steps, q) + (r / 200) as u32 + ground(h, r);
+    Term {
+        up: 5120,
+        down: down,
+    }
+}
+
+// Equation 20: what the weather takes off.
+fn weather(c: u64, h: u64, near: u64) -> u32
+    requires { ⌜ (c ≤ 1000) × (h ≤ 1000) × (1 ≤ near) × (near ≤ 1000000) ⌝ }
+    ensures { λ d. ⌜ d ≡ weatherTerm c h near .down ⌝ }
+{
+    if near <= 10 * h {
+        return 0;
+    }
+    let beyond = c * (near - 10 * h);
+    (beyond / near) as u32
+}
+
+// The share of a voice by a way, and by the weather of its period.
+fn share(steps: &[u32; 1000], v: Voice, way: Term, c: u64, h: u64, near: u64) -> Part
+    requires { ⌜ (now steps ≡ table) × Modest v × (way .up ≤ 100000) × (way .down ≤ 100000) ⌝ }
+    requires { ⌜ (c ≤ 1000) × (h ≤ 1000) × (1 ≤ near) × (near ≤ 1000000) ⌝ }
+    ensures { λ p. ⌜ p ≡ partOf v (way ⊕ weatherTerm c h near) ⌝ }
+{
+    if !v.sounds {
+        return Part {
+            loud: false,
+            energy: 0,
+        };
+    }
+    let sent = v.level;
+    let up = sent.up + way.up;
+    let down = sent.down + way.down + weather(c, h, near);
+    if up < down {
+        return Part {
+            loud: false,
+            energy: 0,
+        };
+    }
+    if 9000 < up - down {
+        return Part {
+            loud: true,
+            energy: 0,
+        };
+    }
+    let energy = level::energy(steps, up - down);
+    Part {
+        loud: false,
+        energy: energy,
+    }
+}
+
+// The three shares by squared distances that are in range, or too loud.
+fn hear(steps: &[u32; 1000], voices: [Voice; 3], q0: u64, q: u64, h: u64) -> Pair
+    requires { ⌜ (now steps ≡ table) × Moderate voices × (1 ≤ q0) × (q0 ≤ q) × (q ≤ 40000000000) × (h ≤ 1000) ⌝ }
+    ensures { λ p. ⌜ p ≡ hearOf voices q0 q h ⌝ }
+{
+    let far = root::root(q);
+    let near = root::root(q0);
+    let way = way(steps, q, far, h);
+    let day = share(steps, voices[0], way, 200, h, near);
+    let evening = share(steps, voices[1], way, 100, h, near);
+    let night = share(steps, voices[2], way, 0, h, near);
+    if day.loud | evening.loud | night.loud {
+        return Pair::Barred(Bar::Loud);
+    }
+    Pair::Heard(Shares {
+        day: day.energy,
+        evening: evening.energy,
+        night: night.energy,
+    })
+}
+
+// A source and a receiver: the three shares, or the first bar.
+pub fn pair(steps: &[u32; 1000], s: Source, voices: [Voice; 3], r: Receiver) -> Pair
+    requires { ⌜ (now steps ≡ table) × (sourceVerdict s ≡ Allowed) × (voices ≡ voicesOf s) × (receiverVerdict r ≡ Allowed) ⌝ }
+    ensures { λ p. ⌜ p ≡ pairOf s r ⌝ }
+{
+    let q0 = plan(s, r);
+    let q = space(q0, r.height);
+    if q < 250000 {
+        return Pair::Barred(Bar::Near);
+    }
+    if 40000000000 < q {
+        return Pair::Barred(Bar::Far);
+    }
+    let long = s.length as u64;
+    let square = long * long;
+    if q < 4 * square {
+        return Pair::Barred(Bar::Long);
+    }
+    let h = (r.height + 50) as u64;
+    hear(steps, voices, q0, q, h)
+}
