@@ -5,6 +5,7 @@ use mathlib.Core.Bool.{Bool, true, false, cond}
 use mathlib.Core.Option.{Option, none, some}
 use mathlib.Core.List.{List, [], _∷_, map}
 use Prim.Native.Nat.{ℕ, zero, suc}
+use borrow.Author.Tests.{eq-eqb}
 use lib.Dec.{eqb}
 use lib.ListN.{length, getD, set, length-map}
 use Rattle.answer.specs.declared.Refusal.{Refusal}
@@ -154,3 +155,11 @@ stays-sound (WithdrawSource i) r s d = step-sound s (withdrawSource i) d (source
 stays-sound (PlaceReceiver j x) r s d = step-sound s (placeReceiver j x) d (receiver-in (bookOf s) (sound-book s d) j x)
 stays-sound (WithdrawReceiver j) r s d = step-sound s (withdrawReceiver j) d (receiver-out (bookOf s) (sound-book s d) j)
 stays-sound (Ask j) r s d = step-sound s (askReceiver j) d (asked (bookOf s) (sound-book s d) j)
+
+-- and a store of the right length that is cleared is undamaged
+pub cleared-sound : (s u : List ℕ) (a : Answer) → length s ≡ 20544 → (a, u) ≡ clearStore s → damaged u ≡ false
+unfolding clearStore storeLength
+cleared-sound s u a l e =
+    ap (λ (o : Answer × List ℕ). damaged (o .1))
+    (e ∙ ap (λ (b : Bool). cond {A = Answer × List ℕ} b (Done, clearedBytes) (Refused Damaged, s)) (eq-eqb (length s) 20544 l))
+    ∙ cleared .whole

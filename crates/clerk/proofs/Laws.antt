@@ -2,7 +2,10 @@
 use mathlib.Core.Path.{_≡_, refl, sym, ap, ap₂, _∙_}
 use mathlib.Core.Bool.{Bool, true, false, cond}
 use mathlib.Core.List.{List}
-use Prim.Native.Nat.{ℕ}
+use Prim.Native.Nat.{ℕ, _≤_}
+use native.Mathlib.Omega.{arith}
+use borrow.Author.Tests.{leb-true}
+use lib.Dec.{leb}
 use lib.ListN.{length}
 use Rattle.answer.specs.declared.Refusal.{Refusal}
 use Rattle.answer.specs.declared.Refusal.the-variants.{Damaged}
@@ -11,7 +14,7 @@ use Rattle.record.specs.declared.Call.{Call as Request}
 use Rattle.record.specs.declared.Call.the-variants as request
 use Rattle.record.specs.declared.Told.{Told}
 use Rattle.record.specs.declared.Told.the-variants as told
-use Rattle.record.specs.Record.{readOf, extentOf}
+use Rattle.record.specs.Record.{lengthOf, readOf, extentOf}
 use Rattle.record.proofs.Trips.{three-periods}
 use Rattle.store.specs.Store.{Book, damaged, bookOf}
 use Rattle.book.specs.declared.Answer.{Answer}
@@ -71,3 +74,16 @@ module _ (job store : List ℕ) where
   pub on-damage : damaged store ≡ true → deed (told.Refused Damaged) (extentOf job) (answer.Refused Damaged, store) ≡ doneTo job store
   unfolding doneTo
   on-damage d = ap (deed (readOf job .told) (extentOf job)) (answer-damaged (readOf job .told) (readOf job .source) d)
+
+-- the next record begins within the job, or where it ends
+extent-within : (s : List ℕ) → extentOf s ≤ length s
+unfolding extentOf
+extent-within s = go (leb (lengthOf s) (length s)) refl
+  where
+    go : (b : Bool) → leb (lengthOf s) (length s) ≡ b → cond b (lengthOf s) 0 ≤ length s
+    go true e = leb-true (lengthOf s) (length s) e
+    go false e = omega arith
+
+pub goes-within : (job store : List ℕ) → doneTo job store .0 .extent ≤ length job
+unfolding doneTo
+goes-within job store = extent-within job
