@@ -1,9 +1,10 @@
 -- A refusal can be read back from its number and its place: two that a caller cannot tell apart are the same.
 -- Assumes nothing.
-use mathlib.Core.Path.{_≡_, refl, sym, ap₂, _∙_}
+use mathlib.Core.Path.{_≡_, refl, sym, ap, ap₂, _∙_}
 use mathlib.Core.List.{List, [], _∷_}
 use lib.ListN.{getD}
 use Prim.Native.Nat.{ℕ}
+use native.Mathlib.Omega.{arith}
 use Rattle.answer.specs.Table.{numberOf, placeOf}
 use Rattle.answer.specs.declared.Refusal.{Refusal}
 use Rattle.answer.specs.declared.Refusal.the-variants.{Damaged, CutShort, UnknownKind, Leftover, Field, SlowSurface, QuietTruck, Taken, Vacant, TooNear, TooFar, TooLong, TooLoud}
@@ -32,3 +33,12 @@ row-is (TooLoud s) = refl
 
 pub told-apart : (r s : Refusal) → numberOf r ≡ numberOf s → placeOf r ≡ placeOf s → r ≡ s
 told-apart r s n p = sym (row-is r) ∙ ap₂ row n p ∙ row-is s
+
+-- number 1 is damage, and no refusal has the number of what is done
+pub one-is-damage : (r : Refusal) → numberOf r ≡ 1 → r ≡ Damaged
+one-is-damage r e = sym (row-is r) ∙ ap (λ (n : ℕ). row n (placeOf r)) e
+
+pub never-done : (r : Refusal) → numberOf r ≡ 0 → ⊥
+never-done r e =
+    let q : r ≡ Damaged = sym (row-is r) ∙ ap (λ (n : ℕ). row n (placeOf r)) e in
+    omega (arith, ap numberOf q, e)

@@ -1,2 +1,3 @@
 -- What the table of numbers settles.
 pub mod Laws
+pub mod Settled

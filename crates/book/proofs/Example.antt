@@ -38,7 +38,7 @@ use Rattle.book.specs.History.{standingSources, levelsOf, Hears, Rule}
 use Rattle.book.proofs.Slots.{row-at}
 use Rattle.book.proofs.Accounts.{lanes-are}
 use Rattle.book.proofs.Gates.{slot-passes}
-use Rattle.book.proofs.Laws.{StoreLaws}
+use Rattle.book.proofs.Laws.{StoreLaws, store-laws}
 use Rattle.book.proofs.History.{laneAfter, seatAfter, on-store, accepts-by-rule, holds-what-stands}
 use Rattle.book.proofs.Rebuild.{keeps, rebuilt}
 
@@ -224,3 +224,17 @@ module _ (laws : StoreLaws) where
   unfolding receiverSlots
   asked-elsewhere =
       rebuilt laws placed (refl, (tt, tt)) elsewhere elsewhere-rebuilds .same-levels _ 5 (List·Memᴰ·head refl) (omega arith) placed-seat ∙ asked
+
+-- ---- all of it in this project's store, with nothing assumed
+
+pub placed-then-asked : answerTo placed (Ask 5) ≡ Levels (Tenths 616) (Tenths 503)
+placed-then-asked = asked store-laws
+
+pub placed-twice : answerTo (Ask 5 ∷ placed) (PlaceSource 0 far) ≡ Refused Taken
+placed-twice = taken store-laws
+
+pub withdrawn-then-asked : answerTo withdrawn (Ask 5) ≡ Levels Quiet Quiet
+withdrawn-then-asked = asked-again store-laws
+
+pub rebuilt-then-asked : answerTo (calls elsewhere) (Ask 63) ≡ Levels (Tenths 616) (Tenths 503)
+rebuilt-then-asked = asked-elsewhere store-laws

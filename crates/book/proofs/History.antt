@@ -6,22 +6,26 @@ use mathlib.Core.Bool.{Bool, true, false, cond, not, _||_}
 use mathlib.Core.Option.{Option, none, some}
 use mathlib.Core.List.{List, [], _∷_, _++_, map}
 use Prim.Native.Nat.{ℕ}
+use native.Mathlib.Omega.{arith}
 use lib.Dec.{eqb}
 use lib.ListN.{length, getD, replicate, length-replicate}
 use Rattle.answer.specs.declared.Refusal.the-variants.{Damaged}
+use Rattle.answer.proofs.Laws.{one-is-damage, never-done}
+use Rattle.answer.specs.Settled.{Agree}
+use Rattle.answer.proofs.Settled.{settled}
 use Rattle.road.specs.declared.Source.{Source}
 use Rattle.road.specs.declared.Receiver.{Receiver}
 use Rattle.store.specs.declared.Held.{Held}
 use Rattle.store.specs.Store.{Book, damaged, bookOf, bytesOf, storeLength, clearedBytes, emptyBook, book, sourceSlots, receiverSlots, SourceStands}
 use Rattle.store.specs.Store.{SoundBook}
 use Rattle.book.specs.declared.Answer.{Answer}
-use Rattle.book.specs.declared.Answer.the-variants.{Done, Refused}
+use Rattle.book.specs.declared.Answer.the-variants.{Done, Levels, Refused}
 use Rattle.ledger.specs.Lists.{omap, present, weigh}
-use Rattle.book.specs.Calls.{Step, refuse, tell, change, told, onStore, clearStore, placeSource, withdrawSource}
+use Rattle.book.specs.Calls.{numberIn, Step, refuse, tell, change, told, onStore, clearStore, placeSource, withdrawSource}
 use Rattle.book.specs.Calls.{placeReceiver, withdrawReceiver, askReceiver}
-use Rattle.book.specs.History.{Call, Clear, PlaceSource, WithdrawSource, PlaceReceiver, WithdrawReceiver, Ask, perform, storeAfter, RealCall}
+use Rattle.book.specs.History.{Call, Clear, PlaceSource, WithdrawSource, PlaceReceiver, WithdrawReceiver, Ask, perform, storeAfter, RealCall, answerTo}
 use Rattle.book.specs.History.{Real, accepted, kept, sourceMove, receiverMove, allLeave, lastAt, row, standingSource, standingReceiver}
-use Rattle.book.specs.History.{standingSources, standingReceivers, SumsOf, HoldsWhatStands, NeverLate, Rule, AcceptsByRule, Agree}
+use Rattle.book.specs.History.{standingSources, standingReceivers, SumsOf, HoldsWhatStands, NeverLate, Rule, AcceptsByRule}
 use Rattle.book.proofs.Slots.{never, all-none, omap-none, slots-moved, slots-none}
 use Rattle.book.proofs.Accounts.{HearsAll}
 use Rattle.book.proofs.Filled.{fill, ReceiverStands, Standing, fill-at, standing-sound, Next, Leads, place-source, withdraw-source}
@@ -30,11 +34,21 @@ use Rattle.book.proofs.Laws.{StoreLaws}
 
 -- ---- for any bytes: a contract that gives the outcome settles it, and a refused call leaves all as it was
 
-pub agree : {A : Type 0} (v : A) → Agree (λ (x : A). x ≡ v)
-agree v x y p q = p ∙ sym q
+pub calls-agree : (c : Call) (b : List ℕ) → Agree (λ (o : Answer × List ℕ). o) (λ (o : Answer × List ℕ). o ≡ perform c b)
+calls-agree c b = settled (λ (o : Answer × List ℕ). o) (perform c b)
 
-pub calls-agree : (c : Call) (b : List ℕ) → Agree (λ (o : Answer × List ℕ). o ≡ perform c b)
-calls-agree c b = agree (perform c b)
+-- ---- answers by their numbers
+
+pub accepted-number : (a : Answer) → (accepted a ≡ true) ↔ (numberIn a ≡ 0)
+accepted-number Done = (λ e. refl, λ e. refl)
+accepted-number (Levels den night) = (λ e. refl, λ e. refl)
+accepted-number (Refused r) = (λ e. never cc, λ e. absurd (never-done r e))
+
+-- number 1 is damage
+one-damaged : (a : Answer) → numberIn a ≡ 1 → a ≡ Refused Damaged
+one-damaged Done e = absurd (omega (arith, e))
+one-damaged (Levels den night) e = absurd (omega (arith, e))
+one-damaged (Refused r) e = ap Refused (one-is-damage r e)
 
 -- unless it is accepted, the store is b
 abbrev Leaves : List ℕ → Answer × List ℕ → Type 0
@@ -193,7 +207,7 @@ module _ (laws : StoreLaws) where
   clear-forgets h real (c ∷ since) = ap (λ b. perform c b .1) (clear-forgets h real since)
 
   pub never-late : (h : List Call) → Real h → NeverLate h
-  never-late h real c = fits (storeAfter h) (kept h) (holds h real) c .sound
+  never-late h real c e = fits (storeAfter h) (kept h) (holds h real) c .sound (one-damaged (answerTo h c) e)
 
   pub accepts-by-rule : (h : List Call) → Real h → AcceptsByRule h
   unfolding standingSource standingReceiver

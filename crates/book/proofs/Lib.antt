@@ -12,3 +12,4 @@ pub mod History
 pub mod Rebuild
 pub mod Theorems
 pub mod Example
+pub mod Settled

@@ -2,7 +2,7 @@
 -- `theorems` takes the laws of a store; `of-this-book` are the theorems of this project's store, with nothing assumed.
 use Rattle.book.specs.History.{Theorems}
 use Rattle.book.proofs.Laws.{StoreLaws, store-laws}
-use Rattle.book.proofs.History.{calls-agree, refused-leaves, clear-forgets, never-late, accepts-by-rule, holds-what-stands}
+use Rattle.book.proofs.History.{calls-agree, accepted-number, refused-leaves, clear-forgets, never-late, accepts-by-rule, holds-what-stands}
 use Rattle.book.proofs.Keeps.{stays-sound}
 use Rattle.book.proofs.Rebuild.{rebuilt, anew-rebuilds}
 
@@ -14,6 +14,7 @@ theorems laws = record {
   rebuilt = rebuilt laws;
   anew-rebuilds = anew-rebuilds;
   clear-forgets = clear-forgets laws;
+  accepted-number = accepted-number;
   refused-leaves = refused-leaves;
   stays-sound = stays-sound;
   agrees = calls-agree;

@@ -13,6 +13,7 @@ use Rattle.road.specs.declared.Pair.the-variants.{Heard}
 use Rattle.road.specs.declared.Pair.the-variants.{Barred as Bars}
 use Rattle.road.specs.Reach.{sharesOf, pairOf}
 use Rattle.road.proofs.Pairs.{heard-is}
+use Rattle.store.specs.declared.Account.{Account}
 use Rattle.store.specs.declared.Held.{Held}
 use Rattle.store.specs.Account.{coversB, roomB}
 use Rattle.ledger.specs.declared.round.Turn.the-variants.{Moved, Late}
@@ -27,22 +28,22 @@ module _ (s : Source) where
   abbrev pairWith : Held → Pair
   pairWith x = pairOf s (x .who)
 
-  coming : (x : Held) (p : Pair) → pairWith x ≡ p → turnOf true s x ≡ raisedBy p x
+  coming : (x : Held) (p : Pair) → pairWith x ≡ p → turnOf true s x ≡ raisedBy p (x .sums)
   unfolding turnOf
-  coming x p e = ap (λ (q : Pair). raisedBy q x) e
+  coming x p e = ap (λ (q : Pair). raisedBy q (x .sums)) e
 
-  going : (x : Held) (p : Pair) → pairWith x ≡ p → turnOf false s x ≡ loweredBy p x
+  going : (x : Held) (p : Pair) → pairWith x ≡ p → turnOf false s x ≡ loweredBy p (x .sums)
   unfolding turnOf
-  going x p e = ap (λ (q : Pair). loweredBy q x) e
+  going x p e = ap (λ (q : Pair). loweredBy q (x .sums)) e
 
   -- a receiver that hears the source moves, if there is room
-  passes-on : (b : Bool) (j : ℕ) (y : Held) (k : Stop) → orStop j (cond b (Moved y) Late) k ≡ k
-  passes-on true j y k = refl
-  passes-on false j y k = refl
+  passes-on : (b : Bool) (j : ℕ) (a : Account) (k : Stop) → orStop j (cond b (Moved a) Late) k ≡ k
+  passes-on true j a k = refl
+  passes-on false j a k = refl
 
-  timely : (b : Bool) (y : Held) → inTime (cond b (Moved y) Late) ≡ b
-  timely true y = refl
-  timely false y = refl
+  timely : (b : Bool) (a : Account) → inTime (cond b (Moved a) Late) ≡ b
+  timely true a = refl
+  timely false a = refl
 
   pub adding-stop : (j : ℕ) (l : List (Option Held)) → stopAt (turnOf true s) j l ≡ stopOf (firstBar pairWith j l)
   unfolding stopAt firstBar
@@ -94,7 +95,7 @@ module _ (s : Source) where
   adding-moved j (some x ∷ l) e f =
       let n = no-bar j x l e in
       let r = and-both (hasRoom s x) (every (hasRoom s) (present l)) f in
-      let m : turnOf true s x ≡ Moved (more s x) = coming x (Heard (sharesOf s (x .who))) (n .0) ∙ ap (λ (b : Bool). cond b (Moved (more s x)) Late) (r .0) in
+      let m : turnOf true s x ≡ Moved (more s x .sums) = coming x (Heard (sharesOf s (x .who))) (n .0) ∙ ap (λ (b : Bool). cond b (Moved (more s x .sums)) Late) (r .0) in
       ap₂ (λ (y : Held) (k : List (Option Held)). some y ∷ k) (ap (movedTo x) m) (adding-moved (suc j) l (n .1) (r .1))
 
   -- a source that goes: what each receiver says, whether or not its pair is barred
@@ -112,14 +113,14 @@ module _ (s : Source) where
   taking-time (none ∷ l) = taking-time l
   taking-time (some x ∷ l) = ap₂ _&&_ (returns-in-time x) (taking-time l)
 
-  gives-back : (x : Held) → canReturn s x ≡ true → turnOf false s x ≡ Moved (less s x)
+  gives-back : (x : Held) → canReturn s x ≡ true → turnOf false s x ≡ Moved (less s x .sums)
   gives-back x = go (pairWith x) refl
     where
-      go : (p : Pair) → pairWith x ≡ p → canReturn s x ≡ true → turnOf false s x ≡ Moved (less s x)
+      go : (p : Pair) → pairWith x ≡ p → canReturn s x ≡ true → turnOf false s x ≡ Moved (less s x .sums)
       go (Heard h) e f =
           let q : h ≡ sharesOf s (x .who) = heard-is s (x .who) h e .0 in
           let c = and-both (isHeard (pairWith x)) (coversB (x .sums) (sharesOf s (x .who))) f in
-          going x (Heard h) e ∙ ap (λ (k : Shares). loweredBy (Heard k) x) q ∙ ap (λ (b : Bool). cond b (Moved (less s x)) Late) (c .1)
+          going x (Heard h) e ∙ ap (λ (k : Shares). loweredBy (Heard k) (x .sums)) q ∙ ap (λ (b : Bool). cond b (Moved (less s x .sums)) Late) (c .1)
       go (Bars b) e f =
           let c = and-both (isHeard (pairWith x)) (coversB (x .sums) (sharesOf s (x .who))) f in
           absurd (false-true (sym (ap isHeard e) ∙ c .0))

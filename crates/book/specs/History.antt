@@ -8,7 +8,7 @@ use mathlib.Core.Option.{Option, none, some}
 use mathlib.Core.List.{List, [], _∷_, _++_, map, List·Memᴰ, List·Permᴰ}
 use lib.ListN.{length, getD}
 use lib.Dec.{eqb}
-use Rattle.answer.specs.declared.Refusal.the-variants.{Damaged}
+use Rattle.answer.specs.Settled.{Agree}
 use Rattle.road.specs.declared.Source.{Source}
 use Rattle.road.specs.declared.Receiver.{Receiver}
 use Rattle.road.specs.declared.Verdict.the-variants.{Allowed}
@@ -20,7 +20,7 @@ use Rattle.store.specs.Store.{Book, damaged, bookOf, clearedBytes, sourceSlots,
 use Rattle.book.specs.declared.Answer.{Answer}
 use Rattle.book.specs.declared.Answer.the-variants.{Done, Levels, Refused}
 use Rattle.ledger.specs.Lists.{omap, present, sumOf}
-use Rattle.book.specs.Calls.{used, isHeard, placeSource, withdrawSource, placeReceiver, withdrawReceiver, askReceiver}
+use Rattle.book.specs.Calls.{numberIn, used, isHeard, placeSource, withdrawSource, placeReceiver, withdrawReceiver, askReceiver}
 use Rattle.book.specs.Calls.{onStore, clearStore}
 
 -- ---- a history: any calls, the latest first, refused ones among them
@@ -162,7 +162,7 @@ pub record HoldsWhatStands (h : List Call) : Type 0 where
 -- ---- second theorem: no history meets damage, found before all else or after it
 
 abbrev pub NeverLate : List Call → Type 0
-NeverLate h = (c : Call) → answerTo h c ≢ Refused Damaged
+NeverLate h = (c : Call) → numberIn (answerTo h c) ≢ 1
 
 -- ---- third theorem: what stands decides which calls are accepted
 
@@ -254,11 +254,6 @@ anew h =
     map source (inPlace 0 (row sourceSlots (standingSource h)))
     ++ map receiver (inPlace 0 (row receiverSlots (standingReceiver h)))
 
--- ---- a contract settles its outcome: two outcomes that meet it are equal
-
-abbrev pub Agree : {A : Type 0} → (A → Type 0) → Type 0
-Agree {A} Meets = (x y : A) → Meets x → Meets y → x ≡ y
-
 -- ---- all together: for every history that code can make; the last three, for any bytes at all
 
 pub record Theorems : Type 0 where
@@ -268,6 +263,8 @@ pub record Theorems : Type 0 where
   pub rebuilt : (h : List Call) → Real h → (ks : List Placing) → Rebuilds h ks → Rebuilt h ks
   pub anew-rebuilds : (h : List Call) → Rebuilds h (anew h)
   pub clear-forgets : (h : List Call) → Real h → (since : List Call) → storeAfter (since ++ Clear ∷ h) ≡ storeAfter since
+  -- accepted are just the calls whose number is 0
+  pub accepted-number : (a : Answer) → (accepted a ≡ true) ↔ (numberIn a ≡ 0)
   pub refused-leaves : (c : Call) (b : List ℕ) → accepted (perform c b .0) ≡ false → perform c b .1 ≡ b
   pub stays-sound : (c : Call) → RealCall c → (b : List ℕ) → damaged b ≡ false → damaged (perform c b .1) ≡ false
-  pub agrees : (c : Call) (b : List ℕ) → Agree (λ (o : Answer × List ℕ). o ≡ perform c b)
+  pub agrees : (c : Call) (b : List ℕ) → Agree (λ (o : Answer × List ℕ). o) (λ (o : Answer × List ℕ). o ≡ perform c b)

@@ -99,12 +99,12 @@ fn enter_receiver(steps: &[u32; 1000], store: &mut [u8], j: usize, r: Receiver) 
     if seat.used {
         return Answer::Refused(Refusal::Taken);
     }
-    let found = gather::gather(steps, store, r);
-    let stop = found.stop;
+    let brought = gather::gather(steps, store, r);
+    let stop = brought.stop;
     match stop {
         Stop::At(why) => Answer::Refused(why),
         Stop::Nowhere => {
-            let sums = found.sums;
+            let sums = brought.sums;
             let x = Held { who: r, sums: sums };
             store::receivers::put_held(store, j, x);
             Answer::Done

@@ -3,3 +3,4 @@ pub mod Entries
 pub mod Rounds
 pub mod Seats
 pub mod Gathers
+pub mod Settled

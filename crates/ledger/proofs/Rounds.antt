@@ -11,6 +11,7 @@ use lib.ListN.{length, getD, set, take, drop, replicate, length-set, length-repl
 use lib.Seq.{take-suc, take-suc-set, drop-cons, take-all, getD-set-other}
 use Rattle.answer.specs.declared.Refusal.{Refusal}
 use Rattle.road.specs.declared.Bar.{Bar}
+use Rattle.store.specs.declared.Account.{Account}
 use Rattle.store.specs.declared.Held.{Held}
 use Rattle.store.specs.declared.Seat.{Seat}
 use Rattle.ledger.specs.declared.round.Turn.{Turn}
@@ -95,10 +96,11 @@ module _ (turn : Held → Turn) where
       rest = λ n a b. g .rest n (omega arith) b;
     }
 
-    pub round-moved : (x y : Held) → getD l j none ≡ some x → turn x ≡ Moved y → Rounding l late (set seats j (record { used = true; held = y })) (j + 1)
+    pub round-moved : (x : Held) (a : Account) → getD l j none ≡ some x → turn x ≡ Moved a
+        → Rounding l late (set seats j (record { used = true; held = record { who = x .who; sums = a } })) (j + 1)
     unfolding stopAt
-    round-moved x y e t =
-        let seat : Seat = record { used = true; held = y } in
+    round-moved x a e t =
+        let seat : Seat = record { used = true; held = record { who = x .who; sums = a } } in
         let m : j < length seats = omega (arith, g .count) in
         record {
           stop = stop-next (some x) e (ap (λ (a : Turn). orStop j a (stopAt turn (suc j) (drop (j + 1) l))) t);

@@ -13,14 +13,13 @@ use Rattle.road.specs.declared.Pair.{Pair}
 use Rattle.road.specs.declared.Pair.the-variants.{Heard}
 use Rattle.road.specs.declared.Pair.the-variants.{Barred as Bars}
 use Rattle.road.specs.Reach.{pairOf}
+use Rattle.store.specs.declared.Account.{Account}
 use Rattle.store.specs.declared.Held.{Held}
 use Rattle.store.specs.declared.Seat.{Seat}
 use Rattle.store.specs.Account.{plusOf, minusOf, coversB, roomB, soundB, nothing}
 use Rattle.store.specs.Store.{Book, book, HeldStands}
 use Rattle.ledger.specs.declared.round.Turn.{Turn}
 use Rattle.ledger.specs.declared.round.Turn.the-variants.{Moved, Barred, Late}
-use Rattle.ledger.specs.declared.round.Visit.{Visit}
-use Rattle.ledger.specs.declared.round.Visit.the-variants.{Free, Turned}
 use Rattle.ledger.specs.declared.round.Stop.{Stop}
 use Rattle.ledger.specs.declared.round.Stop.the-variants.{Nowhere, At}
 use Rattle.ledger.specs.declared.round.Round.{Round}
@@ -31,28 +30,21 @@ use Rattle.ledger.specs.Lists.{omap, present, every, barAt, firstBar, we
 
 -- ---- one receiver
 
-abbrev pub raisedBy : Pair → Held → Turn
-raisedBy (Heard h) x = cond (roomB (x .sums) h) (Moved (record { who = x .who; sums = plusOf (x .sums) h })) Late
-raisedBy (Bars b) x = Barred b
+abbrev pub raisedBy : Pair → Account → Turn
+raisedBy (Heard h) a = cond (roomB a h) (Moved (plusOf a h)) Late
+raisedBy (Bars b) a = Barred b
 
-abbrev pub loweredBy : Pair → Held → Turn
-loweredBy (Heard h) x = cond (coversB (x .sums) h) (Moved (record { who = x .who; sums = minusOf (x .sums) h })) Late
-loweredBy (Bars b) x = Late
+abbrev pub loweredBy : Pair → Account → Turn
+loweredBy (Heard h) a = cond (coversB a h) (Moved (minusOf a h)) Late
+loweredBy (Bars b) a = Late
 
 unfoldable pub turnOf : Bool → Source → Held → Turn
-turnOf adding s x = cond adding (raisedBy (pairOf s (x .who)) x) (loweredBy (pairOf s (x .who)) x)
-
-abbrev pub visitBy : (Held → Turn) → Option Held → Visit
-visitBy turn none = Free
-visitBy turn (some x) = Turned (turn x)
-
-abbrev pub visitOf : Bool → Source → Option Held → Visit
-visitOf adding s o = visitBy (turnOf adding s) o
+turnOf adding s x = cond adding (raisedBy (pairOf s (x .who)) (x .sums)) (loweredBy (pairOf s (x .who)) (x .sums))
 
 -- ---- the round, for any turn
 
 abbrev pub orStop : ℕ → Turn → Stop → Stop
-orStop j (Moved x) k = k
+orStop j (Moved a) k = k
 orStop j (Barred b) k = At (barAt j b)
 orStop j Late k = k
 
@@ -63,12 +55,12 @@ stopAt turn j (none ∷ l) = stopAt turn (suc j) l
 stopAt turn j (some x ∷ l) = orStop j (turn x) (stopAt turn (suc j) l)
 
 abbrev pub inTime : Turn → Bool
-inTime (Moved x) = true
+inTime (Moved a) = true
 inTime (Barred b) = true
 inTime Late = false
 
 abbrev pub movedTo : Held → Turn → Held
-movedTo x (Moved y) = y
+movedTo x (Moved a) = record { who = x .who; sums = a }
 movedTo x (Barred b) = x
 movedTo x Late = x
 

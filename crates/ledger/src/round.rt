@@ -12,27 +12,19 @@ use store::Seat;
 ghost use mathlib.Core.Path.{_≡_};
 ghost use mathlib.Core.Bool.{true, false};
 ghost use Prim.Native.Nat.{_<_};
-ghost use lib.ListN.{getD};
-ghost use mathlib.Core.Option.{none};
 ghost use Rattle.level.specs.Table.{table};
 ghost use Rattle.road.specs.declared.Verdict.the-variants.{Allowed};
 ghost use Rattle.road.specs.Judge.{sourceVerdict, receiverVerdict};
 ghost use Rattle.road.specs.Inner.{voicesOf};
 ghost use Rattle.store.specs.Store.{damaged, bookOf, bytesOf, book, HeldStands};
 ghost use Rattle.ledger.specs.Lists.{barAt};
-ghost use Rattle.ledger.specs.Ledger.{raisedBy, loweredBy, visitOf, vacant, Rounded, settled, seated, StandingSeats};
+ghost use Rattle.ledger.specs.Ledger.{raisedBy, loweredBy, turnOf, vacant, Rounded, settled, seated, StandingSeats};
 
-// What becomes of a receiver when a source comes or goes.
+// What becomes of a receiver's account when a source comes or goes.
 pub enum Turn {
-    Moved(Held),
+    Moved(Account),
     Barred(Bar),
     Late,
-}
-
-// The same for a slot, which may be free.
-pub enum Visit {
-    Free,
-    Turned(Turn),
 }
 
 // Where a round stopped: nowhere, or at a refusal.
@@ -60,71 +52,50 @@ pub fn bar_at(slot: u16, bar: Bar) -> Refusal
     }
 }
 
-// A receiver with a source's shares more.
-fn raised(x: Held, p: Pair) -> Turn
-    ensures { λ r. ⌜ r ≡ raisedBy p x ⌝ }
+// An account with a source's shares more.
+fn raised(sums: Account, p: Pair) -> Turn
+    ensures { λ r. ⌜ r ≡ raisedBy p sums ⌝ }
 {
     match p {
         Pair::Barred(bar) => Turn::Barred(bar),
         Pair::Heard(shares) => {
-            let who = x.who;
-            let sums = x.sums;
             if sums.room(shares) {
                 let more = sums.plus(shares);
-                return Turn::Moved(Held {
-                    who: who,
-                    sums: more,
-                });
+                return Turn::Moved(more);
             }
             Turn::Late
         }
     }
 }
 
-// A receiver with a source's shares less. A pair that is barred could not have been placed.
-fn lowered(x: Held, p: Pair) -> Turn
-    ensures { λ r. ⌜ r ≡ loweredBy p x ⌝ }
+// An account with a source's shares less. A pair that is barred could not have been placed.
+fn lowered(sums: Account, p: Pair) -> Turn
+    ensures { λ r. ⌜ r ≡ loweredBy p sums ⌝ }
 {
     match p {
         Pair::Barred(_) => Turn::Late,
         Pair::Heard(shares) => {
-            let who = x.who;
-            let sums = x.sums;
             if sums.holds(shares) {
                 let less = sums.minus(shares);
-                return Turn::Moved(Held {
-                    who: who,
-                    sums: less,
-                });
+                return Turn::Moved(less);
             }
             Turn::Late
         }
     }
 }
 
-// What becomes of the receiver in a slot.
-fn visit_seat(
-    steps: &[u32; 1000],
-    store: &[u8],
-    j: usize,
-    s: Source,
-    voices: [Voice; 3],
-    adding: bool,
-) -> Visit
-    requires { ⌜ (now steps ≡ table) × (damaged (now store) ≡ false) × (j < 64) × (sourceVerdict s ≡ Allowed) × (voices ≡ voicesOf s) ⌝ }
-    ensures { λ r. ⌜ r ≡ visitOf adding s (getD (bookOf (now (store .entry)) .receivers) j none) ⌝ }
+// What becomes of a receiver.
+fn meet(steps: &[u32; 1000], x: Held, s: Source, voices: [Voice; 3], adding: bool) -> Turn
+    requires { ⌜ (now steps ≡ table) × (sourceVerdict s ≡ Allowed) × (voices ≡ voicesOf s) × (receiverVerdict (x .who) ≡ Allowed) ⌝ }
+    ensures { λ r. ⌜ r ≡ turnOf adding s x ⌝ }
 {
-    let seat = store::receivers::seat(store, j);
-    if !seat.used {
-        return Visit::Free;
-    }
-    let x = seat.held;
     let who = x.who;
+    let sums = x.sums;
     let p = reach::pair(steps, s, voices, who);
     if adding {
-        return Visit::Turned(raised(x, p));
+        return raised(sums, p);
     }
-    Visit::Turned(lowered(x, p))
+    lowered(sums, p)
 }
 
 // A seat with nobody in it.
@@ -164,16 +135,14 @@ pub fn go_round(
     let mut late = false;
     let mut j = 0;
     while j < 64 {
-        match visit_seat(steps, store, j, s, voices, adding) {
-            Visit::Free => {
-                j += 1;
-            }
-            Visit::Turned(turn) => match turn {
-                Turn::Moved(x) => {
-                    seats[j] = Seat {
-                        used: true,
-                        held: x,
-                    };
+        let seat = store::receivers::seat(store, j);
+        let x = seat.held;
+        if seat.used {
+            match meet(steps, x, s, voices, adding) {
+                Turn::Moved(sums) => {
+                    let who = x.who;
+                    let held = Held { who, sums };
+                    seats[j] = Seat { used: true, held };
                     j += 1;
                 }
                 Turn::Late => {
@@ -187,7 +156,9 @@ pub fn go_round(
                         seats: seats,
                     };
                 }
-            },
+            }
+        } else {
+            j += 1;
         }
     }
     Round {

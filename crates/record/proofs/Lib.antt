@@ -4,3 +4,4 @@ pub mod Laws
 pub mod Calls
 pub mod Trips
 pub mod Figures
+pub mod Settled

@@ -5,3 +5,4 @@ pub mod Judged
 pub mod Sums
 pub mod Pairs
 pub mod Figures
+pub mod Settled

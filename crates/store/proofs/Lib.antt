@@ -3,3 +3,4 @@ pub mod Accounts
 pub mod Slots
 pub mod Parties
 pub mod Laws
+pub mod Settled

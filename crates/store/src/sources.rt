@@ -131,35 +131,18 @@ pub(crate) fn any_torn(steps: &[u32; 1000], store: &[u8]) -> bool
     false
 }
 
-// The numbers of a source in use.
+// The numbers of a source in use: the mark, then its fields.
 fn numbers_of(s: Source) -> [u64; 19]
     ensures { λ r. ⌜ r ≡ 1 ∷ sourceFields s ⌝ }
 {
-    let traffic = s.traffic;
-    let day = traffic[0];
-    let evening = traffic[1];
-    let night = traffic[2];
-    [
-        1,
-        s.x as u64,
-        s.y as u64,
-        s.length as u64,
-        s.lanes as u64,
-        s.car as u64,
-        s.truck as u64,
-        s.surface as u64,
-        s.gradient as u64,
-        s.reflection as u64,
-        s.walls as u64,
-        s.height as u64,
-        s.spacing as u64,
-        day.m as u64,
-        day.p as u64,
-        evening.m as u64,
-        evening.p as u64,
-        night.m as u64,
-        night.p as u64,
-    ]
+    let fields = road::judge::source_fields(s);
+    let mut v = [1u64; 19];
+    let mut i = 0;
+    while i < 18 {
+        v[i + 1] = fields[i];
+        i += 1;
+    }
+    v
 }
 
 // Writes a source into slot i.

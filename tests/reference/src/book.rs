@@ -2,7 +2,7 @@
 // A refused call changes nothing, so every call finds out all it needs before it writes.
 
 use crate::level::{energy, level};
-use crate::record::Record;
+use crate::record::{read, Record};
 use crate::road::{
     emission, judge_receiver, judge_slot, judge_source, refusal, shares, Receiver, Refusal, Shares,
     Source, RECEIVERS, SOURCES,
@@ -221,12 +221,16 @@ pub fn clear(image: &mut [u8]) -> Answer {
     Answer::Done
 }
 
-/// Does a record's call on a stored state, whose damage is looked for before all else.
-pub fn apply_stored(image: &mut [u8], record: &Record) -> Answer {
+/// Does the record at the front of the bytes to a stored state. The lowest number that applies
+/// is given, so damage is looked for before the record is read.
+pub fn apply_stored(image: &mut [u8], bytes: &[u8]) -> Answer {
     let Some(mut book) = decode(image) else {
         return Answer::Refused(DAMAGED);
     };
-    let answer = book.apply(record);
+    let answer = match read(bytes) {
+        Ok((record, _)) => book.apply(&record),
+        Err(refusal) => Answer::Refused(refusal),
+    };
     if answer == Answer::Done {
         image.copy_from_slice(&encode(&book));
     }

@@ -1,10 +1,13 @@
 // Running the program under test: its input goes in on one side while its output comes out.
-// Also what both comparing programs share: their arguments and their reports.
+// Also what the comparing programs share: their arguments, the probes and the reports.
 
+use crate::probe::{HEAD, HEAD_NAMES};
 use std::io::{self, Read, Write};
-use std::path::PathBuf;
-use std::process::{Command, Stdio};
+use std::process::{Command, ExitCode, Stdio};
 use std::thread;
+
+/// Probes for one run of the program.
+const AT_ONCE: usize = 100;
 
 /// What a comparing program is told.
 pub struct Order {
@@ -13,8 +16,15 @@ pub struct Order {
     pub seed: u64,
 }
 
+impl Order {
+    /// The seeds of the things to compare.
+    pub fn seeds(&self) -> impl Iterator<Item = u64> {
+        (self.seed..).take(self.count as usize)
+    }
+}
+
 /// The program, the count and the seed, which is 1 if it is not given.
-pub fn order(usage: &str) -> Result<Order, String> {
+fn order(usage: &str) -> Result<Order, String> {
     let words: Vec<String> = std::env::args().skip(1).collect();
     if words.len() != 2 && words.len() != 3 {
         return Err(format!("usage: {usage}"));
@@ -25,6 +35,20 @@ pub fn order(usage: &str) -> Result<Order, String> {
         count: number(&words[1])?,
         seed: words.get(2).map_or(Ok(1), number)?,
     })
+}
+
+/// Does what a comparing program is told, and prints its summary or its report.
+pub fn run(usage: &str, compare: impl Fn(&Order) -> Result<String, String>) -> ExitCode {
+    match order(usage).and_then(|order| compare(&order)) {
+        Ok(summary) => {
+            println!("{summary}");
+            ExitCode::SUCCESS
+        }
+        Err(report) => {
+            eprintln!("{report}");
+            ExitCode::FAILURE
+        }
+    }
 }
 
 /// What the program prints for an input. A program may stop reading early.
@@ -49,10 +73,75 @@ pub fn output_of(program: &str, input: &[u8]) -> io::Result<Vec<u8>> {
 }
 
 /// Keeps bytes in the system's temporary folder and says where.
-pub fn keep(name: &str, bytes: &[u8]) -> io::Result<PathBuf> {
+pub fn keep(name: &str, bytes: &[u8]) -> String {
     let path = std::env::temp_dir().join(format!("ngoretaiwhe-{name}"));
-    std::fs::write(&path, bytes)?;
-    Ok(path)
+    match std::fs::write(&path, bytes) {
+        Ok(()) => format!("it is kept as {}", path.display()),
+        Err(error) => format!("it could not be kept: {error}"),
+    }
+}
+
+/// A probe: its name, what goes into the program, and the head and the bytes that have to come.
+pub struct Probe {
+    pub name: String,
+    pub input: Vec<u8>,
+    pub expected: Vec<u8>,
+}
+
+/// Compares one probe after the other, many in one run of the program.
+pub fn compare_probes(
+    program: &str,
+    mut probes: impl Iterator<Item = Probe>,
+) -> Result<(), String> {
+    loop {
+        let batch: Vec<Probe> = probes.by_ref().take(AT_ONCE).collect();
+        let Some(last) = batch.last() else {
+            return Ok(());
+        };
+        let more = compare_batch(program, &batch)?;
+        if more > 0 {
+            return Err(format!("{more} bytes too many after {}", last.name));
+        }
+    }
+}
+
+/// Sends probes to one run of the program and compares every byte that comes back.
+/// Gives how many come after the last answer.
+fn compare_batch(program: &str, batch: &[Probe]) -> Result<usize, String> {
+    let inputs = batch.iter().map(|probe| probe.input.as_slice());
+    let input = inputs.collect::<Vec<_>>().concat();
+    let found = output_of(program, &input).map_err(|error| error.to_string())?;
+    let mut rest = found.as_slice();
+    for probe in batch {
+        rest = rest
+            .strip_prefix(probe.expected.as_slice())
+            .ok_or_else(|| probe.report(rest))?;
+    }
+    Ok(rest.len())
+}
+
+impl Probe {
+    /// Says where an answer differs and keeps what went in.
+    fn report(&self, found: &[u8]) -> String {
+        let pairs = self.expected.iter().zip(found);
+        let same = pairs.take_while(|(a, b)| a == b).count();
+        let place = match HEAD_NAMES.get(same) {
+            Some(name) => format!("in the head, at byte {same} ({name})"),
+            None => format!("in the bytes after the head, at byte {}", same - HEAD),
+        };
+        let front = |bytes: &[u8]| format!("{:?}", &bytes[..bytes.len().min(HEAD)]);
+        let byte = |bytes: &[u8]| bytes.get(same).map_or("nothing".to_string(), u8::to_string);
+        format!(
+            "probe {} differs {place}: the reference has {}, the program {}\n\
+             heads: the reference {}, the program {}\n{}",
+            self.name,
+            byte(&self.expected),
+            byte(found),
+            front(&self.expected),
+            front(found),
+            keep(&format!("{}.frame", self.name), &self.input)
+        )
+    }
 }
 
 /// The numbers of refusals as one piece of a summary line, from 1 or 2 on.

@@ -69,7 +69,7 @@ pub fn example() -> Vec<u8> {
 }
 
 /// One record of each kind, all fit for the worked case.
-fn one_of_each() -> [Record; 5] {
+pub(crate) fn one_of_each() -> [Record; 5] {
     [
         Record::PlaceReceiver(6, example_receiver()),
         Record::WithdrawReceiver(5),
@@ -109,10 +109,10 @@ fn leftover_records() -> Vec<Vec<u8>> {
     broken
 }
 
-/// Sources with one field after the other at every value worth trying.
-fn trial_sources() -> Vec<Source> {
+/// Sources with one field after the other at every value of so many bits worth trying.
+pub(crate) fn trial_sources(bits: &[u32]) -> Vec<Source> {
     let mut sources = Vec::new();
-    for (number, bits) in (2u16..).zip(SOURCE_BITS.into_iter().skip(1)) {
+    for (number, &bits) in (2u16..).zip(bits) {
         for base in [example_source(), walled_source()] {
             for value in trial_values(&mut Chance::new(0), number, bits) {
                 let mut fields = base.fields();
@@ -125,7 +125,7 @@ fn trial_sources() -> Vec<Source> {
 }
 
 /// Every surface at the speeds at which it may count otherwise.
-fn surfaced_sources() -> Vec<Source> {
+pub(crate) fn surfaced_sources() -> Vec<Source> {
     let at_speed = |car_speed: i64| {
         (1..=9).map(move |surface| Source {
             car_speed,
@@ -155,7 +155,7 @@ pub fn fixed_jobs() -> Vec<Vec<u8>> {
     let mut jobs = vec![
         Vec::new(),
         example(),
-        parade(&trial_sources()),
+        parade(&trial_sources(&SOURCE_BITS[1..])),
         parade(&surfaced_sources()),
         [example(), leftover_records().concat()].concat(),
     ];
@@ -182,7 +182,9 @@ fn record_frames() -> Vec<Frame> {
     records.extend(cut_records());
     records.extend(unlisted_records());
     records.extend(leftover_records());
-    let sources = trial_sources().into_iter().chain(surfaced_sources());
+    let sources = trial_sources(&SOURCE_BITS[1..])
+        .into_iter()
+        .chain(surfaced_sources());
     records.extend(sources.map(|source| Record::PlaceSource(1, source).bytes()));
     let heights = [0, 379, 380, 420, 421, 511];
     records.extend(heights.map(|height| {

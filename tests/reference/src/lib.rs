@@ -18,3 +18,4 @@ pub mod road;
 pub mod store;
 pub mod stores;
 pub mod town;
+pub mod writing;

@@ -2,7 +2,7 @@
 // Lengths and numbers are most significant byte first.
 
 use crate::book::{apply_stored, Answer, Levels};
-use crate::record::read;
+use crate::record::extent;
 use crate::road::Refusal;
 
 /// A stored state of any length and the bytes of a record.
@@ -12,8 +12,18 @@ pub struct Frame {
     pub record: Vec<u8>,
 }
 
-/// Bytes of an answer before the stored state.
-pub const HEAD: usize = 8;
+/// What comes of a frame: the answer, and how far on the next record would begin.
+#[derive(Clone, Copy, Debug, PartialEq, Eq)]
+pub struct Deed {
+    pub answer: Answer,
+    pub extent: usize,
+}
+
+/// Bytes of an answer before the stored state, and what each of them belongs to.
+pub const HEAD: usize = 10;
+pub const HEAD_NAMES: [&str; HEAD] = [
+    "tag", "number", "place", "place", "L_DEN", "L_DEN", "L_Night", "L_Night", "extent", "extent",
+];
 
 /// How a quiet index is told.
 const QUIET: u16 = u16::MAX;
@@ -27,25 +37,34 @@ impl Frame {
         out.extend(&self.record);
     }
 
-    /// Takes a frame off the front; none where no whole frame is left.
+    /// Takes a frame off the front; none where no whole frame of this kind is left.
     pub fn take(input: &mut &[u8]) -> Option<Frame> {
-        let image_length = u32::from_be_bytes(front(input, 4)?.try_into().ok()?);
-        let image = front(input, image_length as usize)?.to_vec();
-        let record_length = u16::from_be_bytes(front(input, 2)?.try_into().ok()?);
-        let record = front(input, usize::from(record_length))?.to_vec();
+        let image_length = number(front(input, 4)?);
+        let image = front(input, image_length)?.to_vec();
+        let record_length = number(front(input, 2)?);
+        let record = front(input, record_length)?.to_vec();
         Some(Frame { image, record })
     }
 
-    /// Reads the record and, if that goes well, does its call on the stored state.
-    pub fn call(&mut self) -> Answer {
-        match read(&self.record) {
-            Ok((record, _)) => apply_stored(&mut self.image, &record),
-            Err(refusal) => Answer::Refused(refusal),
+    /// Does the record to the stored state.
+    pub fn call(&mut self) -> Deed {
+        Deed {
+            answer: apply_stored(&mut self.image, &self.record),
+            extent: extent(&self.record),
         }
+    }
+
+    /// What a probing program writes: the head of the answer and the stored state.
+    pub fn answered(&self, deed: Deed) -> Vec<u8> {
+        [&head(deed)[..], &self.image].concat()
     }
 }
 
-fn front<'a>(input: &mut &'a [u8], length: usize) -> Option<&'a [u8]> {
+pub(crate) fn number(bytes: &[u8]) -> usize {
+    bytes.iter().fold(0, |n, &b| (n << 8) | usize::from(b))
+}
+
+pub(crate) fn front<'a>(input: &mut &'a [u8], length: usize) -> Option<&'a [u8]> {
     let (first, rest) = input.split_at_checked(length)?;
     *input = rest;
     Some(first)
@@ -56,16 +75,17 @@ fn told(tenths: Option<i64>) -> u16 {
 }
 
 /// The head of an answer.
-pub fn head(answer: Answer) -> [u8; HEAD] {
+pub fn head(deed: Deed) -> [u8; HEAD] {
     let none = Refusal {
         number: 0,
         place: 0,
     };
-    let (tag, Refusal { number, place }, den, night) = match answer {
+    let (tag, Refusal { number, place }, den, night) = match deed.answer {
         Answer::Done => (0, none, 0, 0),
         Answer::Levels(Levels { den, night }) => (1, none, told(den), told(night)),
         Answer::Refused(refusal) => (2, refusal, 0, 0),
     };
-    let [[p, q], [d, e], [n, m]] = [place, den, night].map(u16::to_be_bytes);
-    [tag, number, p, q, d, e, n, m]
+    let [[p, q], [d, e], [n, m], [x, y]] =
+        [place, den, night, deed.extent as u16].map(u16::to_be_bytes);
+    [tag, number, p, q, d, e, n, m, x, y]
 }

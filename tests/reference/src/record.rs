@@ -152,6 +152,13 @@ impl Fields<'_> {
     }
 }
 
+/// How far on the next record begins: this record's length, or 0 where its kind is not listed
+/// or not all of its bytes are there.
+pub fn extent(bytes: &[u8]) -> usize {
+    let length = bytes.first().and_then(|byte| length_of(byte >> KIND_BITS));
+    length.filter(|&length| length <= bytes.len()).unwrap_or(0)
+}
+
 /// Reads the record at the front of the bytes: the record and its length, or refusal 2 to 7.
 pub fn read(bytes: &[u8]) -> Result<(Record, usize), Refusal> {
     let kind = bytes.first().ok_or(refusal(2))? >> KIND_BITS;

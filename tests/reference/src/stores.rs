@@ -19,38 +19,53 @@ use crate::town::{road, Town};
 /// What makes one kind of probe.
 type Maker = fn(&mut Chance) -> Frame;
 
-const KINDS: [Maker; 25] = [
-    sound,
-    unread,
-    disallowed,
-    flipped,
-    marked,
-    unused_byte,
-    source_field,
-    source_field,
-    receiver_field,
-    sums,
-    wrong_length,
-    dense,
-    low_sum,
-    high_sum,
-    bad_pair,
-    bad_pair,
-    met_by_source,
-    met_by_source,
-    met_by_receiver,
-    tight_square,
-    tight_level,
-    faint_level,
-    asked,
-    asked,
-    barely_asked,
+/// The kinds of probes, with the names they are counted by.
+const KINDS: [(&str, Maker); 26] = [
+    ("sound", sound),
+    ("unread", unread),
+    ("disallowed", disallowed),
+    ("noise", noise),
+    ("flipped", flipped),
+    ("mark", marked),
+    ("unused", unused_byte),
+    ("source-field", source_field),
+    ("source-field", source_field),
+    ("receiver-field", receiver_field),
+    ("sum", sums),
+    ("length", wrong_length),
+    ("dense", dense),
+    ("low-sum", low_sum),
+    ("high-sum", high_sum),
+    ("bad-pair", bad_pair),
+    ("bad-pair", bad_pair),
+    ("met-by-source", met_by_source),
+    ("met-by-source", met_by_source),
+    ("met-by-receiver", met_by_receiver),
+    ("tight-square", tight_square),
+    ("tight-level", tight_level),
+    ("faint-level", faint_level),
+    ("asked", asked),
+    ("asked", asked),
+    ("barely-asked", barely_asked),
 ];
 
-/// The probe a seed stands for.
+fn kind(seed: u64) -> (&'static str, Maker) {
+    KINDS[(seed % KINDS.len() as u64) as usize]
+}
+
+/// The name of the kind of probe a seed stands for.
+pub fn kind_name(seed: u64) -> &'static str {
+    kind(seed).0
+}
+
+/// The probe a seed stands for; of every kind some have a record that is broken as well.
 pub fn frame(seed: u64) -> Frame {
-    let kind = KINDS[(seed % KINDS.len() as u64) as usize];
-    kind(&mut Chance::new(seed))
+    let chance = &mut Chance::new(seed);
+    let mut frame = kind(seed).1(chance);
+    if chance.one_in(10) {
+        spoil(chance, &mut frame.record);
+    }
+    frame
 }
 
 pub(crate) fn frame_of(book: &Book, record: &Record) -> Frame {
@@ -113,12 +128,12 @@ fn sound(chance: &mut Chance) -> Frame {
     frame
 }
 
-/// A state of any kind: sound, damaged or cut short.
+/// A state of any kind: mostly sound, or damaged or cut short.
 fn any_state(chance: &mut Chance) -> (Frame, Record) {
     let (town, book) = settled(chance);
     let record = fitting_record(chance, &town, &book);
     let mut frame = frame_of(&book, &record);
-    match chance.between(0, 2) {
+    match chance.between(0, 5) {
         0 => frame.image[RECEIVERS_AT] ^= 2,
         1 => frame.image.truncate(chance.index(LENGTH)),
         _ => {}
@@ -126,15 +141,25 @@ fn any_state(chance: &mut Chance) -> (Frame, Record) {
     (frame, record)
 }
 
-/// A record that is cut short, of a kind not listed or with a leftover bit, on any state.
+/// Cuts a record short, gives it a kind not listed, sets bits at its end, or makes it noise.
+fn spoil(chance: &mut Chance, bytes: &mut Vec<u8>) {
+    match chance.between(0, 3) {
+        0 => bytes.truncate(chance.index(bytes.len() + 1)),
+        1 => bytes.insert(0, chance.pick(&[0x05, 0x60, 0x7f, 0x80, 0xf5])),
+        2 => {
+            let spare = 1 << chance.index(3);
+            bytes.last_mut().into_iter().for_each(|byte| *byte |= spare);
+        }
+        _ => bytes
+            .iter_mut()
+            .for_each(|byte| *byte = chance.draw() as u8),
+    }
+}
+
+/// A record that is broken, on any state.
 fn unread(chance: &mut Chance) -> Frame {
     let (mut frame, _) = any_state(chance);
-    let bytes = &mut frame.record;
-    match chance.between(0, 2) {
-        0 => bytes.truncate(chance.index(bytes.len())),
-        1 => bytes[0] = chance.pick(&[0x05, 0x60, 0x7f, 0x80, 0xf5]),
-        _ => *bytes.last_mut().expect("no record is empty") |= 1 << chance.index(3),
-    }
+    spoil(chance, &mut frame.record);
     frame
 }
 
@@ -168,6 +193,24 @@ fn broken_source(chance: &mut Chance) -> Vec<u8> {
         _ => (source.surface, source.car_speed) = (chance.between(5, 9), chance.between(1, 60)),
     }
     Record::PlaceSource(chance.between(0, 511), source).bytes()
+}
+
+/// A state that never was a book's: bytes by chance, one byte throughout, or a few in a cleared one.
+fn noise(chance: &mut Chance) -> Frame {
+    let (town, book) = settled(chance);
+    let record = fitting_record(chance, &town, &book);
+    let mut frame = frame_of(&Book::cleared(), &record);
+    match chance.between(0, 3) {
+        0 => frame.image.fill_with(|| chance.draw() as u8),
+        1 => frame.image.fill(chance.pick(&[0, 1, 255])),
+        _ => {
+            for _ in 0..chance.between(0, 2) {
+                let at = chance.index(LENGTH);
+                frame.image[at] = chance.draw() as u8;
+            }
+        }
+    }
+    frame
 }
 
 /// Some bits turned anywhere, or within slots that are in use.

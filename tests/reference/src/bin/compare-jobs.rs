@@ -1,24 +1,14 @@
 // Compares the listings of a job program with the reference's, on jobs by chance.
 // Every job stands for a seed, and a seed alone with a count of 1 makes that job again.
 
-use reference::compare::{keep, order, output_of, refusal_counts, Order};
+use reference::compare::{keep, output_of, refusal_counts, run, Order};
 use reference::fixed::fixed_jobs;
 use reference::jobs::job;
 use reference::listing::{list, Tally};
 use std::process::ExitCode;
 
 fn main() -> ExitCode {
-    let outcome = order("compare-jobs PROGRAM COUNT [SEED]").and_then(|order| compare(&order));
-    match outcome {
-        Ok(summary) => {
-            println!("{summary}");
-            ExitCode::SUCCESS
-        }
-        Err(report) => {
-            eprintln!("{report}");
-            ExitCode::FAILURE
-        }
-    }
+    run("compare-jobs PROGRAM COUNT [SEED]", compare)
 }
 
 fn compare(order: &Order) -> Result<String, String> {
@@ -27,7 +17,7 @@ fn compare(order: &Order) -> Result<String, String> {
     for (number, job) in fixed.iter().enumerate() {
         tally.add(&compare_job(order, &format!("fixed-{number}"), job)?);
     }
-    for seed in (order.seed..).take(order.count as usize) {
+    for seed in order.seeds() {
         tally.add(&compare_job(order, &format!("seed-{seed}"), &job(seed))?);
     }
     Ok(format!(
@@ -48,10 +38,7 @@ fn compare_job(order: &Order, name: &str, job: &[u8]) -> Result<Tally, String> {
         Ok(found) => difference(&expected, &found),
         Err(error) => error.to_string(),
     };
-    let kept = match keep(&format!("{name}.job"), job) {
-        Ok(path) => format!("the job is kept as {}", path.display()),
-        Err(error) => format!("the job could not be kept: {error}"),
-    };
+    let kept = keep(&format!("{name}.job"), job);
     Err(format!("job {name} differs\n{report}\n{kept}"))
 }
 

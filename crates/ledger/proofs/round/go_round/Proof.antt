@@ -2,32 +2,20 @@
 use mathlib.Core.Path.{_≡_, refl, sym, ap, ap₂, _∙_}
 use Prim.Native.Nat.{ℕ, _+_, _-_, _*_, _/_, _≤_, _<_}
 use native.Mathlib.Omega.{arith}
-use borrow.Author.Needs.{needs}
-use mathlib.Core.Bool.{Bool, true, false, cond, not}
+use mathlib.Core.Bool.{Bool, true, false}
 use mathlib.Core.Option.{Option, none, some}
-use mathlib.Core.List.{List, [], _∷_, map}
+use mathlib.Core.List.{List}
+use borrow.Author.Needs.{needs}
 use lib.ListN.{getD, length}
 use Rattle.store.specs.declared.Held.{Held}
 use Rattle.store.specs.Store.{bookOf}
-use Rattle.store.proofs.Laws.{sound-book}
-use Rattle.road.specs.declared.Source.{Source}
-use Rattle.ledger.specs.declared.round.Turn.{Turn}
-use Rattle.ledger.specs.declared.round.Visit.{Visit}
-use Rattle.ledger.specs.declared.round.Visit.the-variants.{Free, Turned}
+use Rattle.store.proofs.Laws.{undamaged, sound-book}
 use Rattle.ledger.specs.declared.round.Stop.the-variants.{At}
-use Rattle.ledger.specs.Ledger.{turnOf, visitOf}
+use Rattle.ledger.specs.Ledger.{turnOf}
+use Rattle.ledger.proofs.Entries.{seat-free, seat-used, seat-stands}
 use Rattle.ledger.proofs.Rounds.{Rounding, round-begun, round-free, round-moved, round-late, round-barred, round-over, round-stopped}
 use Rattle.ledger.proofs.round.go_round.Statement.{statement}
 use Rattle.ledger.proofs.round.go_round.Tie as tie
-
--- what a visit tells of the slot
-nobody : (a : Bool) (s : Source) (o : Option Held) → visitOf a s o ≡ Free → o ≡ none
-nobody a s none e = refl
-nobody a s (some x) e = absurd (let z : _≡_ {A = ℕ} 0 1 = cc in omega arith)
-
-somebody : (a : Bool) (s : Source) (o : Option Held) (t : Turn) → visitOf a s o ≡ Turned t → (x : Held) × (o ≡ some x) × (turnOf a s x ≡ t)
-somebody a s none t e = absurd (let z : _≡_ {A = ℕ} 0 1 = cc in omega arith)
-somebody a s (some x) t e = let k : turnOf a s x ≡ t = cc in (x, refl, k)
 
 abbrev Inv-loop : tie.InvT-loop
 Inv-loop steps store s voices adding seats₀ late₀ j₀ seats late j = (j ≤ 64) × Rounding (turnOf adding s) (bookOf store .receivers) late seats j
@@ -43,19 +31,32 @@ loop-holds c =
     let a = c .before .before .args in
     (omega arith, rw (c .vacant .ensures) (round-begun (turnOf (a .adding) (a .s)) (bookOf (a .store .now) .receivers)))
 
-visit-seat-requires : tie.Need-visit-seat-requires Inv-loop μ-loop
-visit-seat-requires c κs =
-    let p = c .before .before .before .before .pre in
-    (p .0, p .1, c .loop-test .taken, p .2, p .3)
+seat-requires : tie.Need-seat-requires Inv-loop μ-loop
+seat-requires c κs =
+    let start = c .before .before .before .before in
+    (c .loop-test .taken, undamaged (start .args .store .now) (start .pre .1) .0)
 
--- the turn's slot is one of the 64
-within : (c : tie.After-visit-seat Inv-loop μ-loop) → c .before .before .loop .j < length (bookOf (c .before .before .before .before .before .args .store .now) .receivers)
-within c =
-    let start = c .before .before .before .before .before in
-    omega (arith, sound-book (start .args .store .now) (start .pre .1) .seats, c .before .loop-test .taken)
+-- the slot is one of the 64
+within : (t : tie.After-seat Inv-loop μ-loop) → t .before .before .loop .j < length (bookOf (t .before .before .before .before .before .args .store .now) .receivers)
+within t =
+    let start = t .before .before .before .before .before in
+    omega (arith, sound-book (start .args .store .now) (start .pre .1) .seats, t .before .loop-test .taken)
 
-enum-told : tie.Need-enum-told Inv-loop μ-loop
-enum-told c = search needs
+meet-requires : tie.Need-meet-requires Inv-loop μ-loop
+meet-requires c κs =
+    let t = c .before .before in
+    let start = t .before .before .before .before .before in
+    let st = seat-stands (start .args .store .now) (t .before .before .loop .j) (start .pre .1) (t .before .loop-test .taken) (t .seat .result) (t .seat .ensures) (c .if1 .taken) in
+    (start .pre .0, start .pre .2, start .pre .3, st .0)
+
+enum-known-sums : tie.Need-enum-known-sums Inv-loop μ-loop
+enum-known-sums c = search needs
+
+mul-seats : tie.Need-mul-seats Inv-loop μ-loop
+mul-seats c = search needs
+
+array-set-from-seats : tie.Need-array-set-from-seats Inv-loop μ-loop
+array-set-from-seats c = search needs
 
 add-j : tie.Need-add-j Inv-loop μ-loop
 add-j c = omega arith
@@ -65,24 +66,17 @@ loop-less c = omega arith
 
 loop-again : tie.Need-loop-again Inv-loop μ-loop
 loop-again c =
-    let h = c .before .before in
-    let lp = h .before .before in
-    let a = lp .before .before .before .args in
+    let t = c .before .before .before .before .before .before .before in
+    let lp = t .before .before in
+    let start = lp .before .before .before in
+    let a = start .args in
     let l = bookOf (a .store .now) .receivers in
-    let e = nobody (a .adding) (a .s) (getD l (lp .loop .j) none) (sym (h .visit-seat .ensures) ∙ c .enum-told .given .1) in
-    (omega arith, round-free (turnOf (a .adding) (a .s)) l (lp .loop .late) (lp .loop .seats) (lp .loop .j) (within h) (h .before .loop-test .taken) (lp .loop .inv .1) e)
+    let s = a .store .now in
+    let used = seat-used s (lp .loop .j) (start .pre .1) (t .before .loop-test .taken) (t .seat .result) (t .seat .ensures) (c .before .before .before .before .before .if1 .taken) in
+    (omega arith, round-moved (turnOf (a .adding) (a .s)) l (lp .loop .late) (lp .loop .seats) (lp .loop .j) (within t) (t .before .loop-test .taken) (lp .loop .inv .1) (t .seat .result .held) _ used (sym (c .before .before .before .before .meet .ensures) ∙ c .before .before .sums .given .1))
 
-enum-known-turn : tie.Need-enum-known-turn Inv-loop μ-loop
-enum-known-turn c = search needs
-
-enum-known-turn-2 : tie.Need-enum-known-turn-2 Inv-loop μ-loop
-enum-known-turn-2 c = search needs
-
-mul-seats : tie.Need-mul-seats Inv-loop μ-loop
-mul-seats c = search needs
-
-array-set-from-seats : tie.Need-array-set-from-seats Inv-loop μ-loop
-array-set-from-seats c = search needs
+enum-told : tie.Need-enum-told Inv-loop μ-loop
+enum-told c = search needs
 
 add-j-2 : tie.Need-add-j-2 Inv-loop μ-loop
 add-j-2 c = omega arith
@@ -92,33 +86,17 @@ loop-less-2 c = omega arith
 
 loop-again-2 : tie.Need-loop-again-2 Inv-loop μ-loop
 loop-again-2 c =
-    let h = c .before .before .before .before .before .before in
-    let lp = h .before .before in
-    let a = lp .before .before .before .args in
+    let t = c .before .before .before .before .before in
+    let lp = t .before .before in
+    let start = lp .before .before .before in
+    let a = start .args in
     let l = bookOf (a .store .now) .receivers in
-    let e = somebody (a .adding) (a .s) (getD l (lp .loop .j) none) _ (sym (h .visit-seat .ensures) ∙ c .before .before .before .before .turn .given .1) in
-    (omega arith, round-moved (turnOf (a .adding) (a .s)) l (lp .loop .late) (lp .loop .seats) (lp .loop .j) (within h) (h .before .loop-test .taken) (lp .loop .inv .1) (e .0) _ (e .1) (e .2 ∙ c .before .turn2 .given .1))
+    let s = a .store .now in
+    let used = seat-used s (lp .loop .j) (start .pre .1) (t .before .loop-test .taken) (t .seat .result) (t .seat .ensures) (c .before .before .before .if1 .taken) in
+    (omega arith, round-late (turnOf (a .adding) (a .s)) l (lp .loop .late) (lp .loop .seats) (lp .loop .j) (within t) (t .before .loop-test .taken) (lp .loop .inv .1) (t .seat .result .held) used (sym (c .before .before .meet .ensures) ∙ c .enum-told .given .1))
 
-enum-told-2 : tie.Need-enum-told-2 Inv-loop μ-loop
-enum-told-2 c = search needs
-
-add-j-3 : tie.Need-add-j-3 Inv-loop μ-loop
-add-j-3 c = omega arith
-
-loop-less-3 : tie.Need-loop-less-3 Inv-loop μ-loop
-loop-less-3 c = omega arith
-
-loop-again-3 : tie.Need-loop-again-3 Inv-loop μ-loop
-loop-again-3 c =
-    let h = c .before .before .before .before .before in
-    let lp = h .before .before in
-    let a = lp .before .before .before .args in
-    let l = bookOf (a .store .now) .receivers in
-    let e = somebody (a .adding) (a .s) (getD l (lp .loop .j) none) _ (sym (h .visit-seat .ensures) ∙ c .before .before .before .turn .given .1) in
-    (omega arith, round-late (turnOf (a .adding) (a .s)) l (lp .loop .late) (lp .loop .seats) (lp .loop .j) (within h) (h .before .loop-test .taken) (lp .loop .inv .1) (e .0) (e .1) (e .2 ∙ c .enum-told2 .given .1))
-
-enum-known-turn-3 : tie.Need-enum-known-turn-3 Inv-loop μ-loop
-enum-known-turn-3 c = search needs
+enum-known-bar : tie.Need-enum-known-bar Inv-loop μ-loop
+enum-known-bar c = search needs
 
 cast-bar-at : tie.Need-cast-bar-at Inv-loop μ-loop
 cast-bar-at c = omega arith
@@ -128,13 +106,32 @@ bar-at-requires c κs = search needs
 
 returns : tie.Need-returns Inv-loop μ-loop
 returns c =
-    let h = c .before .before .before .before .before .before .before in
-    let lp = h .before .before in
-    let a = lp .before .before .before .args in
+    let t = c .before .before .before .before .before .before .before in
+    let lp = t .before .before in
+    let start = lp .before .before .before in
+    let a = start .args in
     let l = bookOf (a .store .now) .receivers in
-    let e = somebody (a .adding) (a .s) (getD l (lp .loop .j) none) _ (sym (h .visit-seat .ensures) ∙ c .before .before .before .before .before .turn .given .1) in
+    let s = a .store .now in
+    let used = seat-used s (lp .loop .j) (start .pre .1) (t .before .loop-test .taken) (t .seat .result) (t .seat .ensures) (c .before .before .before .before .before .if1 .taken) in
     round-stopped (turnOf (a .adding) (a .s)) l _ _ (ap At (c .bar-at .ensures))
-    (round-barred (turnOf (a .adding) (a .s)) l (lp .loop .late) (lp .loop .seats) (lp .loop .j) (within h) (h .before .loop-test .taken) (lp .loop .inv .1) (e .0) _ (e .1) (e .2 ∙ c .before .before .turn3 .given .1))
+    (round-barred (turnOf (a .adding) (a .s)) l (lp .loop .late) (lp .loop .seats) (lp .loop .j) (within t) (t .before .loop-test .taken) (lp .loop .inv .1) (t .seat .result .held) _ used (sym (c .before .before .before .before .meet .ensures) ∙ c .before .before .bar .given .1))
+
+add-j-3 : tie.Need-add-j-3 Inv-loop μ-loop
+add-j-3 c = omega arith
+
+loop-less-3 : tie.Need-loop-less-3 Inv-loop μ-loop
+loop-less-3 c = omega arith
+
+loop-again-3 : tie.Need-loop-again-3 Inv-loop μ-loop
+loop-again-3 c =
+    let t = c .before .before in
+    let lp = t .before .before in
+    let start = lp .before .before .before in
+    let a = start .args in
+    let l = bookOf (a .store .now) .receivers in
+    let s = a .store .now in
+    let free = seat-free s (lp .loop .j) (start .pre .1) (t .before .loop-test .taken) (t .seat .result) (t .seat .ensures) (c .if1 .left) in
+    (omega arith, round-free (turnOf (a .adding) (a .s)) l (lp .loop .late) (lp .loop .seats) (lp .loop .j) (within t) (t .before .loop-test .taken) (lp .loop .inv .1) free)
 
 returns-2 : tie.Need-returns-2 Inv-loop μ-loop
 returns-2 c =
@@ -144,4 +141,30 @@ returns-2 c =
     (sound-book (a .store .now) (start .pre .1) .seats) (omega (arith, c .loop-test .left)) (c .before .loop .inv .1)
 
 pub go-round-spec : {M : Type 1} → statement M
-go-round-spec = tie.close (tie.spec Inv-loop μ-loop vacant-requires loop-holds visit-seat-requires enum-told add-j loop-less loop-again enum-known-turn enum-known-turn-2 mul-seats array-set-from-seats add-j-2 loop-less-2 loop-again-2 enum-told-2 add-j-3 loop-less-3 loop-again-3 enum-known-turn-3 cast-bar-at bar-at-requires returns returns-2)
+go-round-spec =
+    tie.close
+    (tie.spec
+    Inv-loop
+    μ-loop
+    vacant-requires
+    loop-holds
+    seat-requires
+    meet-requires
+    enum-known-sums
+    mul-seats
+    array-set-from-seats
+    add-j
+    loop-less
+    loop-again
+    enum-told
+    add-j-2
+    loop-less-2
+    loop-again-2
+    enum-known-bar
+    cast-bar-at
+    bar-at-requires
+    returns
+    add-j-3
+    loop-less-3
+    loop-again-3
+    returns-2)

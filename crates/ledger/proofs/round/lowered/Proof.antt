@@ -1,12 +1,10 @@
--- `lowered` takes the shares of a pair that is heard off, where each sum has them. Assumes nothing.
-use mathlib.Core.Path.{_≡_, refl, sym, ap, ap₂, _∙_}
+-- `lowered` takes the shares of a pair that is heard off, where no share is above its sum. Assumes nothing.
+use mathlib.Core.Path.{_≡_, sym, ap, _∙_}
+use mathlib.Core.Bool.{Bool, cond}
 use borrow.Author.Needs.{needs}
-use mathlib.Core.Bool.{Bool, true, false, cond, not}
-use Rattle.store.specs.declared.Held.{Held}
-use Rattle.store.specs.declared.Account.{Account}
-use Rattle.store.specs.Account.{plusOf, minusOf, roomB, coversB}
-use Rattle.ledger.specs.declared.round.Turn.{Turn}
-use Rattle.ledger.specs.declared.round.Turn.the-variants.{Moved, Barred, Late}
+use Rattle.road.specs.declared.Pair.{Pair}
+use Rattle.store.specs.Account.{minusOf}
+use Rattle.ledger.specs.declared.round.Turn.the-variants.{Moved, Late}
 use Rattle.ledger.specs.Ledger.{loweredBy}
 use Rattle.ledger.proofs.round.lowered.Statement.{statement}
 use Rattle.ledger.proofs.round.lowered.Tie as tie
@@ -26,20 +24,22 @@ minus-requires c κs = sym (c .before .holds .ensures) ∙ c .if1 .taken
 returns : tie.Need-returns
 returns c =
     let r = c .before .before in
-    let x = r .before .before .before .before .before .before .args .x in
-    let covers = sym (r .holds .ensures) ∙ c .before .if1 .taken in
-    ap (λ (a : Account). Moved (record { who = x .who; sums = a })) (c .minus .ensures)
-    ∙ sym (ap (λ q. loweredBy q x) (r .before .before .before .before .p .given .1) ∙ ap (λ (b : Bool). cond b (Moved (record { who = x .who; sums = minusOf (x .sums) (r .before .before .before .before .p .given .0 .0) })) Late) covers)
+    let a = r .before .before .before .before .args .sums in
+    let h = r .before .before .p .given in
+    ap Moved (c .minus .ensures)
+    ∙ sym (ap (λ (q : Pair). loweredBy q a) (h .1) ∙ ap (λ (x : Bool). cond x (Moved (minusOf a (h .0 .0))) Late) (sym (r .holds .ensures) ∙ c .before .if1 .taken))
 
 returns-2 : tie.Need-returns-2
-returns-2 c = ap (λ q. loweredBy q (c .before .before .args .x)) (sym (c .enum-told .given .1))
+returns-2 c = search needs
 
 returns-3 : tie.Need-returns-3
 returns-3 c =
     let r = c .before in
-    let x = r .before .before .before .before .before .before .args .x in
-    let short = sym (r .holds .ensures) ∙ c .if1 .left in
-    sym (ap (λ q. loweredBy q x) (r .before .before .before .before .p .given .1) ∙ ap (λ (b : Bool). cond b (Moved (record { who = x .who; sums = minusOf (x .sums) (r .before .before .before .before .p .given .0 .0) })) Late) short)
+    let a = r .before .before .before .before .args .sums in
+    let h = r .before .before .p .given in
+    sym (ap (λ (q : Pair). loweredBy q a) (h .1) ∙ ap (λ (x : Bool). cond x (Moved (minusOf a (h .0 .0))) Late) (sym (r .holds .ensures) ∙ c .if1 .left))
 
 pub lowered-spec : {M : Type 1} → statement M
-lowered-spec = tie.close (tie.spec enum-told enum-known-p holds-requires minus-requires returns returns-2 returns-3)
+lowered-spec =
+    tie.close
+    (tie.spec enum-told enum-known-p holds-requires minus-requires returns returns-2 returns-3)

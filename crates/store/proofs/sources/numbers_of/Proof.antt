@@ -1,99 +1,89 @@
--- `numbers_of` gives the mark and the fields in their order; each fits the wider number.
+-- `numbers_of` copies the fields after the mark. After i rounds the first i of them stand there.
 -- Assumes nothing.
+use Prim.Native.Nat.{ℕ, suc, _+_, _-_, _≤_, _<_}
+use mathlib.Core.Path.{_≡_, refl, sym, ap, _∙_}
+use mathlib.Core.List.{List, [], _∷_, _++_}
+use native.Mathlib.Numerals.{add-one}
 use native.Mathlib.Omega.{arith}
 use borrow.Author.Needs.{needs}
+use lib.ListN.{length, getD, take, set, length-set}
+use lib.Seq.{take-all, take-suc, take-suc-set}
 use Rattle.store.proofs.sources.numbers_of.Statement.{statement}
 use Rattle.store.proofs.sources.numbers_of.Tie as tie
 
-array-copy-out-day : tie.Need-array-copy-out-day
-array-copy-out-day c = search needs
+more : (v f : List ℕ) (i : ℕ) → i + 1 < length v → i < length f → take (suc i) v ≡ 1 ∷ take i f
+    → take (suc (i + 1)) (set v (i + 1) (getD f i 0)) ≡ 1 ∷ take (i + 1) f
+more v f i h l e =
+    take-suc-set v (i + 1) (getD f i 0) h ∙ (λ j. take (add-one i j) v ++ (getD f i 0 ∷ [])) ∙ ap (λ (t : List ℕ). t ++ (getD f i 0 ∷ [])) e
+    ∙ ap (λ (t : List ℕ). 1 ∷ t) (sym (take-suc f i 0 l) ∙ (λ j. take (sym (add-one i) j) f))
 
-array-copy-out-evening : tie.Need-array-copy-out-evening
-array-copy-out-evening c = search needs
+all : (v f : List ℕ) (i : ℕ) → length v ≡ suc i → length f ≡ i → take (suc i) v ≡ 1 ∷ take i f → v ≡ 1 ∷ f
+all v f i h l e = sym (take-all (suc i) v (omega arith)) ∙ e ∙ ap (λ (t : List ℕ). 1 ∷ t) (take-all i f (omega arith))
 
-array-copy-out-night : tie.Need-array-copy-out-night
-array-copy-out-night c = search needs
+abbrev Inv-loop : tie.InvT-loop
+Inv-loop fields v₀ i₀ v i = (i ≤ 18) × (length v ≡ 19) × (take (suc i) v ≡ 1 ∷ take i fields)
 
-cast-t13 : tie.Need-cast-t13
-cast-t13 c = search needs
+abbrev μ-loop : tie.MeasureT-loop
+μ-loop fields v₀ i₀ v i = 18 - i
 
-cast-t14 : tie.Need-cast-t14
-cast-t14 c = search needs
+source-fields-requires : tie.Need-source-fields-requires Inv-loop μ-loop
+source-fields-requires c κs = search needs
 
-cast-t15 : tie.Need-cast-t15
-cast-t15 c = search needs
+loop-holds : tie.Need-loop-holds Inv-loop μ-loop
+loop-holds c = (omega arith, refl, refl)
 
-cast-t16 : tie.Need-cast-t16
-cast-t16 c = search needs
+mul-v : tie.Need-mul-v Inv-loop μ-loop
+mul-v c = search needs
 
-cast-t17 : tie.Need-cast-t17
-cast-t17 c = search needs
+array-read-v : tie.Need-array-read-v Inv-loop μ-loop
+array-read-v c = search needs
 
-cast-t18 : tie.Need-cast-t18
-cast-t18 c = search needs
+add-v : tie.Need-add-v Inv-loop μ-loop
+add-v c = search needs
 
-cast-t19 : tie.Need-cast-t19
-cast-t19 c = search needs
+mul-v-2 : tie.Need-mul-v-2 Inv-loop μ-loop
+mul-v-2 c = search needs
 
-cast-t20 : tie.Need-cast-t20
-cast-t20 c = search needs
+array-write-v : tie.Need-array-write-v Inv-loop μ-loop
+array-write-v c = search needs
 
-cast-t21 : tie.Need-cast-t21
-cast-t21 c = search needs
+add-i : tie.Need-add-i Inv-loop μ-loop
+add-i c = search needs
 
-cast-t22 : tie.Need-cast-t22
-cast-t22 c = omega (arith, c .struct-known10)
+loop-less : tie.Need-loop-less Inv-loop μ-loop
+loop-less c = search needs
 
-cast-t23 : tie.Need-cast-t23
-cast-t23 c = omega (arith, c .struct-known11)
+loop-again : tie.Need-loop-again Inv-loop μ-loop
+loop-again c =
+    let l = c .before in
+    let f = l .before .source-fields in
+    let v = l .loop .v in
+    let i = l .loop .i in (
+      omega arith,
+      length-set v (i + 1) (getD (f .result) i 0) ∙ l .loop .inv .1,
+      more v (f .result) i (omega arith) (omega (arith, ap length (f .ensures))) (l .loop .inv .2),
+    )
 
-cast-t24 : tie.Need-cast-t24
-cast-t24 c = omega (arith, c .struct-known12)
-
-cast-t25 : tie.Need-cast-t25
-cast-t25 c = search needs
-
-cast-t26 : tie.Need-cast-t26
-cast-t26 c = search needs
-
-cast-t27 : tie.Need-cast-t27
-cast-t27 c = search needs
-
-cast-t28 : tie.Need-cast-t28
-cast-t28 c = search needs
-
-cast-t29 : tie.Need-cast-t29
-cast-t29 c = search needs
-
-cast-t30 : tie.Need-cast-t30
-cast-t30 c = search needs
-
-returns : tie.Need-returns
-returns c = search needs
+returns : tie.Need-returns Inv-loop μ-loop
+returns c =
+    let l = c .before in
+    let f = l .before .source-fields in
+    all (l .loop .v) (f .result) (l .loop .i) (omega arith) (omega (arith, ap length (f .ensures))) (l .loop .inv .2) ∙ ap (λ (t : List ℕ). 1 ∷ t) (f .ensures)
 
 pub numbers-of-spec : {M : Type 1} → statement M
 numbers-of-spec =
     tie.close
     (tie.spec
-    array-copy-out-day
-    array-copy-out-evening
-    array-copy-out-night
-    cast-t13
-    cast-t14
-    cast-t15
-    cast-t16
-    cast-t17
-    cast-t18
-    cast-t19
-    cast-t20
-    cast-t21
-    cast-t22
-    cast-t23
-    cast-t24
-    cast-t25
-    cast-t26
-    cast-t27
-    cast-t28
-    cast-t29
-    cast-t30
+    Inv-loop
+    μ-loop
+    source-fields-requires
+    loop-holds
+    mul-v
+    array-read-v
+    add-v
+    mul-v-2
+    array-write-v
+    add-i
+    loop-less
+    loop-again
     returns)

@@ -1,0 +1,2 @@
+-- The kinds that are not listed.
+pub mod Laws

@@ -1,0 +1,49 @@
+-- A call as 44 bytes, most significant first: the kind, the slot (two bytes), and the fields of a source or a receiver, each as wide as its type.
+-- The kinds are those of document 01; one that is not listed is an ask.
+use Prim.Native.Nat.{ℕ, _+_, _*_}
+use mathlib.Core.List.{List, [], _∷_}
+use lib.ListN.{getD}
+use Rattle.road.specs.declared.Receiver.{Receiver}
+use Rattle.road.specs.declared.Traffic.{Traffic}
+use Rattle.road.specs.declared.Source.{Source}
+use Rattle.record.specs.declared.Call.{Call}
+use Rattle.record.specs.declared.Call.the-variants.{PlaceReceiver, WithdrawReceiver, PlaceSource, WithdrawSource, Ask}
+
+abbrev pub one : List ℕ → ℕ → ℕ
+one s i = getD s i 0
+
+abbrev pub two : List ℕ → ℕ → ℕ
+two s i = one s i * 256 + one s (i + 1)
+
+abbrev pub four : List ℕ → ℕ → ℕ
+four s i = two s i * 65536 + two s (i + 2)
+
+abbrev pub trafficAt : List ℕ → ℕ → Traffic
+trafficAt s i = record { m = four s i; p = two s (i + 4) }
+
+abbrev pub sourceAt : List ℕ → Source
+sourceAt s =
+    record {
+      x = four s 3;
+      y = four s 7;
+      length = four s 11;
+      lanes = one s 15;
+      car = one s 16;
+      truck = one s 17;
+      surface = one s 18;
+      gradient = one s 19;
+      reflection = one s 20;
+      walls = one s 21;
+      height = two s 22;
+      spacing = two s 24;
+      traffic = trafficAt s 26 ∷ trafficAt s 32 ∷ trafficAt s 38 ∷ [];
+    }
+
+abbrev pub receiverAt : List ℕ → Receiver
+receiverAt s = record { x = four s 3; y = four s 7; height = two s 11 }
+
+unfoldable pub callBy : ℕ → ℕ → Receiver → Call
+callBy kind slot r = getD (Ask slot ∷ PlaceReceiver slot r ∷ WithdrawReceiver slot ∷ PlaceSource slot ∷ WithdrawSource slot ∷ []) kind (Ask slot)
+
+abbrev pub callAt : List ℕ → Call
+callAt s = callBy (one s 0) (two s 1) (receiverAt s)

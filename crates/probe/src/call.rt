@@ -1,0 +1,106 @@
+// A call as 44 bytes: the kind, the slot (two bytes), and the fields of a source or a receiver, each as wide as its type.
+// So calls can be told that no record holds. A kind that is not listed is an ask.
+use record::Call;
+use road::Receiver;
+use road::Source;
+use road::Traffic;
+ghost use mathlib.Core.Path.{_≡_};
+ghost use Prim.Native.Nat.{_+_, _*_, _≤_};
+ghost use Rattle.probe.specs.Raw as spec;
+
+fn joined(high: u8, low: u8) -> u16
+    ensures { λ r. ⌜ r ≡ high * 256 + low ⌝ }
+{
+    high as u16 * 256 + low as u16
+}
+
+fn wide(high: u16, low: u16) -> u32
+    ensures { λ r. ⌜ r ≡ high * 65536 + low ⌝ }
+{
+    high as u32 * 65536 + low as u32
+}
+
+fn two(raw: &[u8; 44], at: usize) -> u16
+    requires { ⌜ at + 2 ≤ 44 ⌝ }
+    ensures { λ r. ⌜ r ≡ spec.two (now (raw .entry)) at ⌝ }
+{
+    joined(raw[at], raw[at + 1])
+}
+
+fn four(raw: &[u8; 44], at: usize) -> u32
+    requires { ⌜ at + 4 ≤ 44 ⌝ }
+    ensures { λ r. ⌜ r ≡ spec.four (now (raw .entry)) at ⌝ }
+{
+    wide(two(raw, at), two(raw, at + 2))
+}
+
+fn traffic(raw: &[u8; 44], at: usize) -> Traffic
+    requires { ⌜ at + 6 ≤ 44 ⌝ }
+    ensures { λ r. ⌜ r ≡ spec.trafficAt (now (raw .entry)) at ⌝ }
+{
+    let m = four(raw, at);
+    let p = two(raw, at + 4);
+    Traffic { m, p }
+}
+
+fn periods(raw: &[u8; 44]) -> [Traffic; 3]
+    ensures { λ r. ⌜ r ≡ spec.sourceAt (now (raw .entry)) .traffic ⌝ }
+{
+    [traffic(raw, 26), traffic(raw, 32), traffic(raw, 38)]
+}
+
+pub fn source(raw: &[u8; 44]) -> Source
+    ensures { λ r. ⌜ r ≡ spec.sourceAt (now (raw .entry)) ⌝ }
+{
+    let x = four(raw, 3);
+    let y = four(raw, 7);
+    let length = four(raw, 11);
+    let lanes = raw[15];
+    let car = raw[16];
+    let truck = raw[17];
+    let surface = raw[18];
+    let gradient = raw[19];
+    let reflection = raw[20];
+    let walls = raw[21];
+    let height = two(raw, 22);
+    let spacing = two(raw, 24);
+    let traffic = periods(raw);
+    Source {
+        x,
+        y,
+        length,
+        lanes,
+        car,
+        truck,
+        surface,
+        gradient,
+        reflection,
+        walls,
+        height,
+        spacing,
+        traffic,
+    }
+}
+
+fn receiver(raw: &[u8; 44]) -> Receiver
+    ensures { λ r. ⌜ r ≡ spec.receiverAt (now (raw .entry)) ⌝ }
+{
+    let x = four(raw, 3);
+    let y = four(raw, 7);
+    let height = two(raw, 11);
+    Receiver { x, y, height }
+}
+
+pub fn of(raw: &[u8; 44]) -> Call
+    ensures { λ r. ⌜ r ≡ spec.callAt (now (raw .entry)) ⌝ }
+{
+    let slot = two(raw, 1);
+    let kind = raw[0];
+    match kind {
+        1 => Call::PlaceReceiver(slot, receiver(raw)),
+        2 => Call::WithdrawReceiver(slot),
+        3 => Call::PlaceSource(slot),
+        4 => Call::WithdrawSource(slot),
+        _ => Call::Ask(slot),
+    }
+}

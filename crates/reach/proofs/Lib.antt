@@ -1,0 +1,2 @@
+-- What the contracts of a pair settle.
+pub mod Settled

@@ -1,0 +1,94 @@
+-- Each public function of roads, and of the crates below that do not rest on the law, settles its outcome: one line for each.
+-- Assumes nothing.
+use denote.Ref.{now}
+use Rattle.answer.specs.Settled.{Settles, SettlesResult}
+use Rattle.answer.proofs.Settled.{settled}
+use Rattle.root.proofs.Laws.{root-one}
+use Rattle.level.proofs as level
+use Rattle.layout.proofs as layout
+use Rattle.root.proofs as root
+use Rattle.road.proofs
+
+within-settled : SettlesResult proofs.emission.within.Reads.Post
+within-settled l a = settled _ _
+
+traffic-settled : SettlesResult proofs.emission.traffic.Reads.Post
+traffic-settled l a = settled _ _
+
+car-level-settled : SettlesResult proofs.emission.car_level.Reads.Post
+car-level-settled l a = settled _ _
+
+truck-level-settled : SettlesResult proofs.emission.truck_level.Reads.Post
+truck-level-settled l a = settled _ _
+
+pace-of-settled : SettlesResult proofs.emission.pace_of.Reads.Post
+pace-of-settled l a = settled _ _
+
+speed-settled : SettlesResult proofs.emission.speed.Reads.Post
+speed-settled l a = settled _ _
+
+gradient-settled : SettlesResult proofs.emission.gradient.Reads.Post
+gradient-settled l a = settled _ _
+
+walls-settled : SettlesResult proofs.emission.walls.Reads.Post
+walls-settled l a = settled _ _
+
+voices-settled : SettlesResult proofs.emission.voices.Reads.Post
+voices-settled l a = settled _ _
+
+source-fields-settled : SettlesResult proofs.judge.source_fields.Reads.Post
+source-fields-settled l a = settled _ _
+
+judge-source-settled : SettlesResult proofs.judge.judge_source.Reads.Post
+judge-source-settled l a = settled _ _
+
+judge-receiver-settled : SettlesResult proofs.judge.judge_receiver.Reads.Post
+judge-receiver-settled l a = settled _ _
+
+judge-slot-settled : SettlesResult proofs.judge.judge_slot.Reads.Post
+judge-slot-settled l a = settled _ _
+
+-- ---- levels
+
+energy-settled : SettlesResult level.energy.Reads.Post
+energy-settled l a = settled _ _
+
+level-settled : SettlesResult level.level.Reads.Post
+level-settled l a = settled _ _
+
+lv-settled : SettlesResult level.lv.Reads.Post
+lv-settled l a = settled _ _
+
+steps-settled : SettlesResult level.table.steps.Reads.Post
+steps-settled l a = settled _ _
+
+step-settled : SettlesResult level.table.step.Reads.Post
+step-settled l a = settled _ _
+
+tens-settled : SettlesResult level.table.tens.Reads.Post
+tens-settled l a = settled _ _
+
+-- ---- layouts
+
+number-settled : SettlesResult layout.number.Reads.Post
+number-settled l a = settled _ _
+
+field-settled : SettlesResult layout.field.Reads.Post
+field-settled l a = settled _ _
+
+take-fields-settled : Settles (λ l a r e. now (e .1 .1 .0)) layout.take_fields.Reads.Post
+take-fields-settled l a = settled _ _
+
+put-number-settled : Settles (λ l a r e. now (e .0)) layout.put_number.Reads.Post
+put-number-settled l a = settled _ _
+
+put-fields-settled : Settles (λ l a r e. now (e .0)) layout.put_fields.Reads.Post
+put-fields-settled l a = settled _ _
+
+first-outside-settled : SettlesResult layout.first_outside.Reads.Post
+first-outside-settled l a = settled _ _
+
+-- ---- roots, whose contract is two inequalities
+
+root-settled : SettlesResult root.root.Reads.Post
+root-settled l a x y p q = root-one (a .0) (x .0) (y .0) (record { at-most = p .0; above = p .1 }) (record { at-most = q .0; above = q .1 })

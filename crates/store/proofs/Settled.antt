@@ -1,0 +1,45 @@
+-- Each public function of the store settles its outcome: one line for each.
+-- Assumes nothing.
+use denote.Ref.{now}
+use Rattle.answer.specs.Settled.{Settles, SettlesResult}
+use Rattle.answer.proofs.Settled.{settled}
+use Rattle.store.proofs
+
+sound-settled : SettlesResult proofs.Account.sound.Reads.Post
+sound-settled l a = settled _ _
+
+room-settled : SettlesResult proofs.Account.room.Reads.Post
+room-settled l a = settled _ _
+
+holds-settled : SettlesResult proofs.Account.holds.Reads.Post
+holds-settled l a = settled _ _
+
+plus-settled : SettlesResult proofs.Account.plus.Reads.Post
+plus-settled l a = settled _ _
+
+minus-settled : SettlesResult proofs.Account.minus.Reads.Post
+minus-settled l a = settled _ _
+
+damaged-settled : SettlesResult proofs.damaged.Reads.Post
+damaged-settled l a = settled _ _
+
+wipe-settled : Settles (λ l a r e. now (e .0)) proofs.wipe.Reads.Post
+wipe-settled l a = settled _ _
+
+lane-settled : SettlesResult proofs.sources.lane.Reads.Post
+lane-settled l a = settled _ _
+
+put-source-settled : Settles (λ l a r e. now (e .0)) proofs.sources.put_source.Reads.Post
+put-source-settled l a = settled _ _
+
+drop-source-settled : Settles (λ l a r e. now (e .0)) proofs.sources.drop_source.Reads.Post
+drop-source-settled l a = settled _ _
+
+seat-settled : SettlesResult proofs.receivers.seat.Reads.Post
+seat-settled l a = settled _ _
+
+put-held-settled : Settles (λ l a r e. now (e .0)) proofs.receivers.put_held.Reads.Post
+put-held-settled l a = settled _ _
+
+drop-held-settled : Settles (λ l a r e. now (e .0)) proofs.receivers.drop_held.Reads.Post
+drop-held-settled l a = settled _ _
