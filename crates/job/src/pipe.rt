@@ -126,6 +126,7 @@ fn finish(output: &mut [u8], s: Stand) {
 // Runs a job, from a cleared store to the last line.
 pub fn run(steps: &[u32; 1000], store: &mut [u8], input: &mut [u8], output: &mut [u8])
     requires { ⌜ (now steps ≡ table) × (length (now store) ≡ 20544) × (length (now input) ≤ 65536) ⌝ }
+    ensures { λ _. ⌜ damaged (now (store .exit)) ≡ false ⌝ }
 {
     book::clear(store);
     let mut s = Stand {

@@ -37,11 +37,10 @@ fn hear_source(steps: &[u32; 1000], store: &[u8], i: usize, r: Receiver) -> Offe
     requires { ⌜ (now steps ≡ table) × (damaged (now store) ≡ false) × (i < 512) × (receiverVerdict r ≡ Allowed) ⌝ }
     ensures { λ o. ⌜ o ≡ offerOf r (getD (bookOf (now (store .entry)) .sources) i none) ⌝ }
 {
-    let lane = store::sources::lane(store, i);
-    if !lane.used {
+    if !store::sources::marked(store, i) {
         return Offer::Free;
     }
-    let s = lane.source;
+    let s = store::sources::lane(store, i).source;
     let voices = road::emission::voices(steps, s);
     match reach::pair(steps, s, voices, r) {
         Pair::Heard(shares) => Offer::Heard(shares),

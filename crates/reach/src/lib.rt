@@ -128,8 +128,8 @@ fn hear(steps: &[u32; 1000], voices: [Voice; 3], q0: u64, q: u64, h: u64) -> Pai
     requires { ⌜ (now steps ≡ table) × Moderate voices × (1 ≤ q0) × (q0 ≤ q) × (q ≤ 40000000000) × (h ≤ 1000) ⌝ }
     ensures { λ p. ⌜ p ≡ hearOf voices q0 q h ⌝ }
 {
-    let far = root::root(q);
     let near = root::root(q0);
+    let far = root::root_from(q, near + 1);
     let way = way(steps, q, far, h);
     let day = share(steps, voices[0], way, 200, h, near);
     let evening = share(steps, voices[1], way, 100, h, near);

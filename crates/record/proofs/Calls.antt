@@ -13,12 +13,11 @@ use Rattle.layout.specs.Bounds.{firstOutside, Inside, under}
 use Rattle.layout.proofs.Bounds.{none-outside, inside-within}
 use Rattle.answer.specs.declared.Refusal.the-variants.{Field, SlowSurface, QuietTruck}
 use Rattle.road.specs.declared.Receiver.{Receiver}
-use Rattle.road.specs.declared.Traffic.{Traffic}
 use Rattle.road.specs.declared.Source.{Source}
 use Rattle.road.specs.declared.Verdict.{Verdict}
 use Rattle.road.specs.declared.Verdict.the-variants.{Allowed, Refused}
 use Rattle.road.proofs.Fit.{passed}
-use Rattle.road.specs.Term.{none}
+use Rattle.road.proofs.Periods.{periods-again}
 use Rattle.road.specs.Judge.{sourceFields, sourceLeast, sourceMost, receiverFields, receiverLeast, receiverMost, unlessOutside, slowSurface, quietTruck, sourceVerdict, receiverVerdict, slotVerdict, lastSource, lastReceiver}
 use Rattle.record.specs.declared.Call.{Call}
 use Rattle.record.specs.declared.Call.the-variants.{PlaceReceiver, WithdrawReceiver, PlaceSource, WithdrawSource, Ask}
@@ -120,37 +119,11 @@ call-again (PlaceSource slot) s = refl
 call-again (WithdrawSource slot) s = refl
 call-again (Ask slot) s = refl
 
-three : (l : List Traffic) → length l ≡ 3 → getD l 0 none ∷ getD l 1 none ∷ getD l 2 none ∷ [] ≡ l
-three [] h = absurd (omega arith)
-three (a ∷ []) h = absurd (omega arith)
-three (a ∷ b ∷ []) h = absurd (omega arith)
-three (a ∷ b ∷ d ∷ []) h = refl
-three (a ∷ b ∷ d ∷ e ∷ l) h = absurd (omega arith)
-
--- a source with another traffic
-abbrev pub with : Source → List Traffic → Source
-with s t =
-    record {
-      x = s .x;
-      y = s .y;
-      length = s .length;
-      lanes = s .lanes;
-      car = s .car;
-      truck = s .truck;
-      surface = s .surface;
-      gradient = s .gradient;
-      reflection = s .reflection;
-      walls = s .walls;
-      height = s .height;
-      spacing = s .spacing;
-      traffic = t;
-    }
-
 pub source-again : (c : Call) (s : Source) → length (s .traffic) ≡ 3 → kindAt (numberOf c) .source (at (fieldsOf c s)) ≡ sourceWith c s
 unfolding kindAt
 source-again (PlaceReceiver slot r) s h = refl
 source-again (WithdrawReceiver slot) s h = refl
-source-again (PlaceSource slot) s h = ap (with s) (three (s .traffic) h)
+source-again (PlaceSource slot) s h = periods-again s h
 source-again (WithdrawSource slot) s h = refl
 source-again (Ask slot) s h = refl
 

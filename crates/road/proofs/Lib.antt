@@ -4,5 +4,6 @@ pub mod Fit
 pub mod Judged
 pub mod Sums
 pub mod Pairs
+pub mod Periods
 pub mod Figures
 pub mod Settled

@@ -92,3 +92,6 @@ first-outside-settled l a = settled _ _
 
 root-settled : SettlesResult root.root.Reads.Post
 root-settled l a x y p q = root-one (a .0) (x .0) (y .0) (record { at-most = p .0; above = p .1 }) (record { at-most = q .0; above = q .1 })
+
+root-from-settled : SettlesResult root.root_from.Reads.Post
+root-from-settled l a x y p q = root-one (a .0) (x .0) (y .0) (record { at-most = p .0; above = p .1 }) (record { at-most = q .0; above = q .1 })

@@ -13,12 +13,11 @@ use Rattle.layout.specs.Bounds.{firstOutside, under}
 use Rattle.layout.proofs.Bounds.{both, none-outside, inside-within}
 use Rattle.answer.specs.declared.Refusal.the-variants.{Field, SlowSurface, QuietTruck}
 use Rattle.road.specs.declared.Source.{Source}
-use Rattle.road.specs.declared.Traffic.{Traffic}
 use Rattle.road.specs.declared.Verdict.{Verdict}
 use Rattle.road.specs.declared.Verdict.the-variants.{Allowed, Refused}
-use Rattle.road.specs.Term.{none}
 use Rattle.road.specs.Judge.{sourceFields, sourceLeast, sourceMost, slowSurface, quietTruck, sourceVerdict, receiverVerdict}
 use Rattle.road.proofs.Fit.{passed, fit-receiver}
+use Rattle.road.proofs.Periods.{periods-again}
 use Rattle.store.specs.declared.Held.{Held}
 use Rattle.store.specs.Account.{soundB}
 use Rattle.store.specs.Slots.{layoutOf}
@@ -67,24 +66,7 @@ source-fits s e =
     )
 
 source-again : (s : Source) → length (s .traffic) ≡ 3 → sourceFrom (1 ∷ sourceFields s) ≡ s
-source-again s e =
-    ap (λ (t : List Traffic).
-    record {
-      x = s .x;
-      y = s .y;
-      length = s .length;
-      lanes = s .lanes;
-      car = s .car;
-      truck = s .truck;
-      surface = s .surface;
-      gradient = s .gradient;
-      reflection = s .reflection;
-      walls = s .walls;
-      height = s .height;
-      spacing = s .spacing;
-      traffic = t;
-    })
-    (spelled none 3 (s .traffic) e)
+source-again s e = periods-again s e
 
 pub source-lawful : Lawful sourceParty SourceStands
 source-lawful =

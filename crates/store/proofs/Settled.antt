@@ -26,6 +26,9 @@ damaged-settled l a = settled _ _
 wipe-settled : Settles (λ l a r e. now (e .0)) proofs.wipe.Reads.Post
 wipe-settled l a = settled _ _
 
+marked-settled : SettlesResult proofs.sources.marked.Reads.Post
+marked-settled l a = settled _ _
+
 lane-settled : SettlesResult proofs.sources.lane.Reads.Post
 lane-settled l a = settled _ _
 

@@ -52,6 +52,16 @@ fn numbers(store: &[u8], i: usize) -> [u64; 19]
     v
 }
 
+// Whether the mark of slot i says used: a look at one byte, for walks over slots of which few are.
+pub fn marked(store: &[u8], i: usize) -> bool
+    requires { ⌜ (i < 512) × (length (now store) ≡ storeLength) ⌝ }
+    ensures { λ r. ⌜ r ≡ laneOf (sourceAt i (now (store .entry))) .used ⌝ }
+{
+    let at = i * 36;
+    let mark = layout::field(&store[at..at + 36], 0, 8);
+    mark == 1
+}
+
 // The source that numbers describe.
 fn source_from(v: &[u64; 19]) -> Source
     requires { ⌜ Fit (layoutOf sourceParty) 0 (now v) ⌝ }

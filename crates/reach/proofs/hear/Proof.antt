@@ -26,27 +26,30 @@ use Rattle.reach.proofs.hear.Tie as tie
 root-requires : tie.Need-root-requires
 root-requires c κs = search needs
 
-root-requires-2 : tie.Need-root-requires-2
-root-requires-2 c κs = search needs
-
 -- the two roots are in range
-far : (c : tie.After-root) → Reached (c .root .result)
-far c = let p = c .before .pre in reached (c .before .args .q) _ (omega (arith, p .2, p .3)) (p .4) (c .root .ensures)
+near : (c : tie.After-root) → Reached (c .root .result)
+near c = let p = c .before .pre in reached (c .before .args .q0) _ (p .2) (omega (arith, p .3, p .4)) (c .root .ensures)
 
-near : (c : tie.After-root2) → Reached (c .root2 .result)
-near c = let p = c .before .before .pre in reached (c .before .before .args .q0) _ (p .2) (omega (arith, p .3, p .4)) (c .root2 .ensures)
+far : (c : tie.After-root-from) → Reached (c .root-from .result)
+far c = let p = c .before .before .pre in reached (c .before .before .args .q) _ (omega (arith, p .2, p .3)) (p .4) (c .root-from .ensures)
+
+add-root-from : tie.Need-add-root-from
+add-root-from c = record { fits = omega (arith, near c .most) }
+
+root-from-requires : tie.Need-root-from-requires
+root-from-requires c κs = (omega (arith, c .before .pre .2, c .before .pre .3), omega (arith, near c .some), omega (arith, near c .most))
 
 way-requires : tie.Need-way-requires
 way-requires c κs =
     let p = c .before .before .pre in
-    (p .0, omega (arith, p .2, p .3), p .4, p .5, far (c .before) .some, far (c .before) .most)
+    (p .0, omega (arith, p .2, p .3), p .4, p .5, far c .some, far c .most)
 
 -- the way is small
 short : (c : tie.After-way) → Small 100000 (c .way .result)
 short c =
     let a = c .before .before .before .args in
     let p = c .before .before .before .pre in
-    rw (c .way .ensures) (small-way (a .q) (c .before .before .root .result) (a .h) (omega (arith, p .2, p .3)) (p .4) (far (c .before .before) .most))
+    rw (c .way .ensures) (small-way (a .q) (c .before .root-from .result) (a .h) (omega (arith, p .2, p .3)) (p .4) (far (c .before) .most))
 
 array-copy-out-share : tie.Need-array-copy-out-share
 array-copy-out-share c = search needs
@@ -55,7 +58,7 @@ share-requires : tie.Need-share-requires
 share-requires c κs =
     let w = c .before in
     let p = w .before .before .before .pre in
-    ((p .0, p .1 .day, short w .up, short w .down), (omega arith, p .5, near (w .before) .some, near (w .before) .most))
+    ((p .0, p .1 .day, short w .up, short w .down), (omega arith, p .5, near (w .before .before) .some, near (w .before .before) .most))
 
 array-copy-out-share-2 : tie.Need-array-copy-out-share-2
 array-copy-out-share-2 c = search needs
@@ -64,7 +67,7 @@ share-requires-2 : tie.Need-share-requires-2
 share-requires-2 c κs =
     let w = c .before .before .before in
     let p = w .before .before .before .pre in
-    ((p .0, p .1 .evening, short w .up, short w .down), (omega arith, p .5, near (w .before) .some, near (w .before) .most))
+    ((p .0, p .1 .evening, short w .up, short w .down), (omega arith, p .5, near (w .before .before) .some, near (w .before .before) .most))
 
 array-copy-out-share-3 : tie.Need-array-copy-out-share-3
 array-copy-out-share-3 c = search needs
@@ -73,16 +76,16 @@ share-requires-3 : tie.Need-share-requires-3
 share-requires-3 c κs =
     let w = c .before .before .before .before .before in
     let p = w .before .before .before .pre in
-    ((p .0, p .1 .night, short w .up, short w .down), (omega arith, p .5, near (w .before) .some, near (w .before) .most))
+    ((p .0, p .1 .night, short w .up, short w .down), (omega arith, p .5, near (w .before .before) .some, near (w .before .before) .most))
 
 -- the share by the way and the root that were found is the part of the period
 heard : (c : tie.After-way) (i : ℕ) (x : Part)
-    → x ≡ partOf (getD (c .before .before .before .args .t2) i silent) (c .way .result ⊕ weatherTerm (weatherOf i) (c .before .before .before .args .h) (c .before .root2 .result))
+    → x ≡ partOf (getD (c .before .before .before .args .t2) i silent) (c .way .result ⊕ weatherTerm (weatherOf i) (c .before .before .before .args .h) (c .before .before .root .result))
     → x ≡ partIn (c .before .before .before .args .t2) (c .before .before .before .args .q0) (c .before .before .before .args .q) (c .before .before .before .args .h) i
 heard c i x e =
     let a = c .before .before .before .args in
-    let f : c .before .before .root .result ≡ rootOf (a .q) = root-settled (a .q) _ (c .before .before .root .ensures) in
-    let n : c .before .root2 .result ≡ rootOf (a .q0) = root-settled (a .q0) _ (c .before .root2 .ensures) in
+    let f : c .before .root-from .result ≡ rootOf (a .q) = root-settled (a .q) _ (c .before .root-from .ensures) in
+    let n : c .before .before .root .result ≡ rootOf (a .q0) = root-settled (a .q0) _ (c .before .before .root .ensures) in
     let w : c .way .result ≡ distanceTerm (a .q) (rootOf (a .q)) ⊕ groundTerm (a .h) (rootOf (a .q)) =
     c .way .ensures ∙ ap (λ (r : ℕ). distanceTerm (a .q) r ⊕ groundTerm (a .h) r) f in
     e ∙ (λ j. partOf (getD (a .t2) i silent) (w j ⊕ weatherTerm (weatherOf i) (a .h) (n j)))
@@ -117,4 +120,4 @@ returns-2 c =
     sym (told-heard (s .before .before .before .before .share .result) (s .before .before .share2 .result) (s .share3 .result) (c .if1 .left)) ∙ parts s
 
 pub hear-spec : {M : Type 1} → statement M
-hear-spec = tie.close (tie.spec root-requires root-requires-2 way-requires array-copy-out-share share-requires array-copy-out-share-2 share-requires-2 array-copy-out-share-3 share-requires-3 returns returns-2)
+hear-spec = tie.close (tie.spec root-requires add-root-from root-from-requires way-requires array-copy-out-share share-requires array-copy-out-share-2 share-requires-2 array-copy-out-share-3 share-requires-3 returns returns-2)

@@ -7,7 +7,7 @@ use Rattle.record.specs.Kinds.{kindAt, layoutOf}
 use Rattle.record.proofs.Laws.{field-fits}
 use mathlib.Core.Path.{ap}
 use Rattle.record.specs.Kinds.{at, sourceIn}
-use Rattle.record.proofs.Calls.{with}
+use Rattle.road.proofs.Periods.{with}
 use borrow.Author.Needs.{needs}
 use Rattle.record.proofs.kinds.source_in.Statement.{statement}
 use Rattle.record.proofs.kinds.source_in.Tie as tie

@@ -1,0 +1,39 @@
+-- A source of the code has three periods of traffic; in antt they are a list, and one of three is its three entries.
+-- Assumes nothing.
+use Prim.Native.Nat.{ℕ}
+use mathlib.Core.Path.{_≡_, refl, ap}
+use mathlib.Core.List.{List, [], _∷_}
+use native.Mathlib.Omega.{arith}
+use lib.ListN.{length, getD}
+use Rattle.road.specs.declared.Traffic.{Traffic}
+use Rattle.road.specs.declared.Source.{Source}
+use Rattle.road.specs.Term.{none}
+
+three : (l : List Traffic) → length l ≡ 3 → getD l 0 none ∷ getD l 1 none ∷ getD l 2 none ∷ [] ≡ l
+three [] h = absurd (omega arith)
+three (a ∷ []) h = absurd (omega arith)
+three (a ∷ b ∷ []) h = absurd (omega arith)
+three (a ∷ b ∷ d ∷ []) h = refl
+three (a ∷ b ∷ d ∷ e ∷ l) h = absurd (omega arith)
+
+-- a source with another traffic
+abbrev pub with : Source → List Traffic → Source
+with s t =
+    record {
+      x = s .x;
+      y = s .y;
+      length = s .length;
+      lanes = s .lanes;
+      car = s .car;
+      truck = s .truck;
+      surface = s .surface;
+      gradient = s .gradient;
+      reflection = s .reflection;
+      walls = s .walls;
+      height = s .height;
+      spacing = s .spacing;
+      traffic = t;
+    }
+
+pub periods-again : (s : Source) → length (s .traffic) ≡ 3 → with s (getD (s .traffic) 0 none ∷ getD (s .traffic) 1 none ∷ getD (s .traffic) 2 none ∷ []) ≡ s
+periods-again s h = ap (with s) (three (s .traffic) h)

@@ -1,0 +1,59 @@
+-- `marked` reads the first byte of a slot, which is its first number.
+-- Assumes nothing.
+use Prim.Native.Nat.{ℕ, _+_, _-_, _*_, _≤_, _<_}
+use mathlib.Core.Path.{_≡_, refl, sym, ap, _∙_}
+use mathlib.Core.List.{List}
+use native.Mathlib.Omega.{arith}
+use denote.Ref.{now}
+use lib.Dec.{eqb}
+use lib.ListN.{length, take, drop, length-drop}
+use lib.Seq.{length-take-le}
+use Rattle.layout.specs.Layout.{bits, Bytes}
+use Rattle.layout.proofs.Numbers.{bytes-take, bytes-drop}
+use Rattle.layout.proofs.Laws.{field-bits}
+use Rattle.store.specs.Slots.{layoutOf}
+use Rattle.store.specs.Store.{storeLength, sourceParty, sourceAt, laneOf}
+use borrow.Author.Needs.{needs}
+use Rattle.store.proofs.sources.marked.Statement.{statement}
+use Rattle.store.proofs.sources.marked.Tie as tie
+
+-- the mark is the first eight bits of the slot
+mark-is : (s : List ℕ) (i n : ℕ) → Bytes s → i < 512 → length s ≡ storeLength → n ≡ bits 0 8 (sourceAt i s) → eqb n 1 ≡ laneOf (sourceAt i s) .used
+unfolding laneOf storeLength
+mark-is s i n b h l e =
+    let k : length (sourceAt i s) ≡ 36 = length-take-le 36 (drop (i * 36) s) (omega (arith, length-drop (i * 36) s)) in
+    ap (λ (m : ℕ). eqb m 1)
+    (e ∙ sym (field-bits (layoutOf sourceParty) (sourceAt i s) 0 refl (omega (arith, k)) (bytes-take 36 (drop (i * 36) s) (bytes-drop (i * 36) s b)) (omega arith)))
+
+mul-at : tie.Need-mul-at
+mul-at c = search needs
+
+add-field : tie.Need-add-field
+add-field c = search needs
+
+sub-field : tie.Need-sub-field
+sub-field c = search needs
+
+part-field-start : tie.Need-part-field-start
+part-field-start c = search needs
+
+part-field-end : tie.Need-part-field-end
+unfolding storeLength
+part-field-end c = omega (arith, c .before .pre .0, c .before .pre .1)
+
+field-requires : tie.Need-field-requires
+field-requires c κs = search needs
+
+returns : tie.Need-returns
+returns c =
+    let z = c .before .before .before in
+    let s = now (z .args .store) in
+    let i = z .args .i in
+    let e : i * 36 + 36 - i * 36 ≡ 36 = omega arith in
+    mark-is s i (c .field .result) (λ k. c .before .before .shared-slice-known .given k .fits) (z .pre .0) (z .pre .1)
+    (c .field .ensures ∙ ap (λ (k : ℕ). bits 0 8 (take k (drop (i * 36) s))) e)
+
+pub marked-spec : {M : Type 1} → statement M
+marked-spec =
+    tie.close
+    (tie.spec mul-at add-field sub-field part-field-start part-field-end field-requires returns)
