@@ -84,6 +84,11 @@ extent-within s = go (leb (lengthOf s) (length s)) refl
     go true e = leb-true (lengthOf s) (length s) e
     go false e = omega arith
 
+-- how far the next record is depends on the record alone
+pub goes-by : (job store : List ℕ) → doneTo job store .0 .extent ≡ extentOf job
+unfolding doneTo
+goes-by job store = refl
+
 pub goes-within : (job store : List ℕ) → doneTo job store .0 .extent ≤ length job
 unfolding doneTo
 goes-within job store = extent-within job

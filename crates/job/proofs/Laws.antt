@@ -16,7 +16,7 @@ use Rattle.store.specs.Store.{damaged}
 use Rattle.clerk.specs.declared.Outcome.{Outcome}
 use Rattle.clerk.specs.declared.Deed.{Deed}
 use Rattle.clerk.specs.Clerk.{doneTo}
-use Rattle.clerk.proofs.Laws.{goes-within}
+use Rattle.clerk.proofs.Laws.{goes-by, goes-within}
 use Rattle.job.specs.declared.piece.Progress.{Progress}
 use Rattle.job.specs.declared.piece.Entry.{Entry}
 use Rattle.job.specs.declared.pipe.Hand.{Hand}
@@ -81,6 +81,9 @@ entered piece store out sub at n place r left to with e q d p =
       line = subst (λ (o : Outcome). Put place (lineOf n o) out to with) (ap (λ (o : Deed × List ℕ). o .0 .outcome) w) p;
     }
 
+true-false : true ≡ false → ⊥
+true-false e = let z : _≡_ {A = ℕ} 0 1 = cc in omega arith
+
 -- ---- records one after the other
 
 -- so far: some records are done, in order, and what they print stands at the front of the output
@@ -136,28 +139,33 @@ module _ (piece : List ℕ) (n : ℕ) (store₀ store out : List ℕ) (read wrot
     sound = e .left-sound;
   }
 
-  pub going-stopped : length with ≡ length out → read < length piece → r .extent ≡ 0
-      → Listed piece n store₀ (record { read = read; wrote = r .wrote; count = count + 1; stopped = true }) left with × (damaged left ≡ false)
-  going-stopped k l z = (
+  pub going-stopped : (over : Bool) → length with ≡ length out → read < length piece → r .extent ≡ 0
+      → Listed piece over n store₀ (record { read = read; wrote = r .wrote; count = count + 1; stopped = true }) left with × (damaged left ≡ false)
+  going-stopped over k l z = (
     record {
       records = suc (g .records);
       are = ap (λ (x : ℕ). sofar (count + 1) x left (take (r .wrote) with)) (omega (arith, z)) ∙ one-more;
       read-within = g .read-within;
       wrote-within = omega (arith, e .line .within, k);
       count-within = omega (arith, g .count-within, l);
+      stops = λ y. sym (goes-by (drop read piece) store) ∙ sym (e .extent) ∙ z;
+      through = λ y. absurd (true-false y);
     },
     e .left-sound,
   )
 
-pub going-paused : (piece : List ℕ) (n : ℕ) (store₀ store out : List ℕ) (read wrote count : ℕ) (p : Progress) → Going piece n store₀ store out read wrote count
-    → p ≡ paused read wrote count → Listed piece n store₀ p store out × (damaged store ≡ false)
-going-paused piece n store₀ store out read wrote count p g e = (
-  subst (λ (q : Progress). Listed piece n store₀ q store out) (sym e) (record {
+pub going-paused : (piece : List ℕ) (over : Bool) (n : ℕ) (store₀ store out : List ℕ) (read wrote count : ℕ) (p : Progress) → Going piece n store₀ store out read wrote count
+    → (over ≡ true → 64 ≤ length out - wrote → read ≡ length piece) → p ≡ paused read wrote count
+    → Listed piece over n store₀ p store out × (damaged store ≡ false)
+going-paused piece over n store₀ store out read wrote count p g f e = (
+  subst (λ (q : Progress). Listed piece over n store₀ q store out) (sym e) (record {
     records = g .records;
     are = g .are;
     read-within = g .read-within;
     wrote-within = g .wrote-within;
     count-within = omega (arith, g .count-within, g .read-within);
+    stops = λ z. absurd (true-false (sym z));
+    through = λ z. f;
   }),
   g .sound,
 )

@@ -84,7 +84,7 @@ pub fn list(
     out: &mut [u8],
 ) -> Progress
     requires { ⌜ (now steps ≡ table) × (damaged (now store) ≡ false) × (n + length (now piece) < 18446744073709551616) ⌝ }
-    ensures { λ r. ⌜ Listed (now (piece .entry)) n (now (store .entry)) r (now (store .exit)) (now (out .exit)) × (damaged (now (store .exit)) ≡ false) ⌝ }
+    ensures { λ r. ⌜ Listed (now (piece .entry)) over n (now (store .entry)) r (now (store .exit)) (now (out .exit)) × (damaged (now (store .exit)) ≡ false) ⌝ }
 {
     let mut read = 0;
     let mut wrote = 0;

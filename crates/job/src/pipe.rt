@@ -23,14 +23,16 @@ pub struct Hand {
     pub failed: bool,
 }
 
-// How the program stands: what is at hand, the records tried, whether the listing is through, and whether writing failed.
+// How the program stands: what is at hand, the records tried, whether the listing is through, and whether input could not be
+// read or output not be written.
 struct Stand {
     from: usize,
     to: usize,
     over: bool,
     count: u64,
     done: bool,
-    failed: bool,
+    unread: bool,
+    unwritten: bool,
 }
 
 // Moves the bytes at hand to the front.
@@ -77,7 +79,36 @@ fn refill(input: &mut [u8], from: usize, to: usize, over: bool) -> Hand
     fetch(input, to - from)
 }
 
-// One turn: bytes are fetched where they are wanted, the records at hand are done, and their lines go out.
+// The records at hand are done, and their lines go out.
+fn advance(
+    steps: &[u32; 1000],
+    store: &mut [u8],
+    input: &[u8],
+    output: &mut [u8],
+    hand: Hand,
+    count: u64,
+) -> Stand
+    requires { ⌜ (now steps ≡ table) × (damaged (now store) ≡ false) × (hand .from ≤ hand .to) × (hand .to ≤ length (now input)) × (length (now input) ≤ 65536) × (count + 65536 < 18446744073709551616) ⌝ }
+    ensures { λ r. ⌜ (damaged (now (store .exit)) ≡ false) × (r .from ≤ r .to) × (r .to ≤ length (now (input .entry))) × (r .count ≤ count + 65536) ⌝ }
+{
+    let from = hand.from;
+    let to = hand.to;
+    let p = piece::list(steps, store, &input[from..to], hand.over, count, output);
+    let wrote = p.wrote;
+    let told = io::write_all(STDOUT_FILENO, &output[..wrote]);
+    let next = from + p.read;
+    Stand {
+        from: next,
+        to,
+        over: hand.over,
+        count: p.count,
+        done: p.stopped | (hand.over & (next == to)),
+        unread: false,
+        unwritten: !told,
+    }
+}
+
+// One turn: bytes are fetched where they are wanted, and the records at hand are done. Where no byte can be read, none is.
 fn turn(
     steps: &[u32; 1000],
     store: &mut [u8],
@@ -89,37 +120,39 @@ fn turn(
     ensures { λ r. ⌜ (damaged (now (store .exit)) ≡ false) × (r .from ≤ r .to) × (r .to ≤ length (now (input .entry))) × (r .count ≤ s .count + 65536) ⌝ }
 {
     let hand = refill(input, s.from, s.to, s.over);
-    let from = hand.from;
-    let to = hand.to;
-    let p = piece::list(steps, store, &input[from..to], hand.over, s.count, output);
-    let wrote = p.wrote;
-    let told = io::write_all(STDOUT_FILENO, &output[..wrote]);
-    let next = from + p.read;
-    Stand {
-        from: next,
-        to,
-        over: hand.over,
-        count: p.count,
-        done: p.stopped | (hand.over & (next == to)),
-        failed: hand.failed | !told,
+    if hand.failed {
+        return Stand {
+            from: hand.from,
+            to: hand.to,
+            over: hand.over,
+            count: s.count,
+            done: false,
+            unread: true,
+            unwritten: false,
+        };
+    }
+    advance(steps, store, input, output, hand, s.count)
+}
+
+// Says on standard error what went wrong.
+fn complain(s: Stand) {
+    if s.unread {
+        io::write_all(STDERR_FILENO, b"job: standard input cannot be read\n");
+    }
+    if s.unwritten {
+        io::write_all(STDERR_FILENO, b"job: standard output cannot be written\n");
     }
 }
 
 // The last line, or what went wrong.
 fn finish(output: &mut [u8], s: Stand) {
-    if s.failed {
-        io::write_all(
-            STDERR_FILENO,
-            b"job: standard input could not be read, or standard output not be written\n",
-        );
+    if s.unread | s.unwritten {
+        complain(s);
         return;
     }
     let n = listing::end_line(s.count, output);
     if !io::write_all(STDOUT_FILENO, &output[..n]) {
-        io::write_all(
-            STDERR_FILENO,
-            b"job: standard output could not be written\n",
-        );
+        io::write_all(STDERR_FILENO, b"job: standard output cannot be written\n");
     }
 }
 
@@ -135,11 +168,12 @@ pub fn run(steps: &[u32; 1000], store: &mut [u8], input: &mut [u8], output: &mut
         over: false,
         count: 0,
         done: false,
-        failed: false,
+        unread: false,
+        unwritten: false,
     };
     let mut turns: u64 = TURNS;
     while 0 < turns {
-        if s.done | s.failed {
+        if s.done | s.unread | s.unwritten {
             finish(output, s);
             return;
         }

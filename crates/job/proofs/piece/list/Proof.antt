@@ -1,6 +1,7 @@
 -- `list` goes from record to record; what is done so far is what that many records come to. Assumes nothing.
 use Prim.Native.Nat.{ℕ, _+_, _-_, _≤_, _<_}
 use native.Mathlib.Omega.{arith}
+use mathlib.Core.Bool.{Bool, true, false, not, _&&_}
 use mathlib.Core.List.{List}
 use mathlib.Core.Path.{_≡_, refl, sym, _∙_}
 use borrow.Author.Needs.{needs}
@@ -16,6 +17,11 @@ Inv-loop steps store₀ piece over n out₀ read₀ wrote₀ count₀ store out 
 
 abbrev μ-loop : tie.MeasureT-loop
 μ-loop steps store₀ piece over n out₀ read₀ wrote₀ count₀ store out read wrote count = length piece - read
+
+-- what is not over goes on
+goes-on : (over short : Bool) → not over && short ≡ true → over ≡ true → ⊥
+goes-on true short e o = let z : _≡_ {A = ℕ} 0 1 = cc in omega arith
+goes-on false short e o = let z : _≡_ {A = ℕ} 0 1 = cc in omega arith
 
 loop-holds : tie.Need-loop-holds Inv-loop μ-loop
 loop-holds c =
@@ -38,7 +44,8 @@ returns : tie.Need-returns Inv-loop μ-loop
 returns c =
     let l = c .before .before .before .loop in
     let start = c .before .before .before .before .before .before .before in
-    going-paused (now (start .args .piece)) (start .args .n) (now (start .args .store)) (l .store) (l .out) (l .read) (l .wrote) (l .count) _ (l .inv .0) (c .pause .ensures)
+    going-paused (now (start .args .piece)) (start .args .over) (start .args .n) (now (start .args .store)) (l .store) (l .out) (l .read) (l .wrote) (l .count) _ (l .inv .0)
+    (λ o r. absurd (let z : _≡_ {A = ℕ} 0 1 = omega (arith, r, c .before .if1 .taken) in omega arith)) (c .pause .ensures)
 
 sub-if2 : tie.Need-sub-if2 Inv-loop μ-loop
 sub-if2 c = c .before .before .loop .inv .0 .read-within
@@ -56,7 +63,8 @@ returns-2 : tie.Need-returns-2 Inv-loop μ-loop
 returns-2 c =
     let l = c .before .before .before .before .loop in
     let start = c .before .before .before .before .before .before .before .before in
-    going-paused (now (start .args .piece)) (start .args .n) (now (start .args .store)) (l .store) (l .out) (l .read) (l .wrote) (l .count) _ (l .inv .0) (c .pause2 .ensures)
+    going-paused (now (start .args .piece)) (start .args .over) (start .args .n) (now (start .args .store)) (l .store) (l .out) (l .read) (l .wrote) (l .count) _ (l .inv .0)
+    (λ o r. absurd (goes-on _ _ (c .before .if2 .taken) o)) (c .pause2 .ensures)
 
 add-count : tie.Need-add-count Inv-loop μ-loop
 add-count c = record { fits = omega (arith, c .before .before .before .loop .inv .0 .count-within, c .before .before .loop-test .taken, c .before .before .before .before .before .before .before .pre .2) }
@@ -78,7 +86,7 @@ returns-3 c =
     let l = c .before .before .before .before .before .before .before .before .before .before .before .before .loop in
     let start = c .before .before .before .before .before .before .before .before .before .before .before .before .before .before .before .before in
     let e = c .before .before .before .before .before .before .enter in
-    going-stopped (now (start .args .piece)) (start .args .n) (now (start .args .store)) (l .store) (l .out) (l .read) (l .wrote) (l .count) (l .inv .0) (e .result) _ _ (e .ensures) (e .kept .1 .1 .1 .1 .1 .0) (c .before .before .before .before .before .before .before .before .before .before .before .loop-test .taken) (c .if3 .taken)
+    going-stopped (now (start .args .piece)) (start .args .n) (now (start .args .store)) (l .store) (l .out) (l .read) (l .wrote) (l .count) (l .inv .0) (e .result) _ _ (e .ensures) (start .args .over) (e .kept .1 .1 .1 .1 .1 .0) (c .before .before .before .before .before .before .before .before .before .before .before .loop-test .taken) (c .if3 .taken)
 
 add-read : tie.Need-add-read Inv-loop μ-loop
 add-read c =
@@ -109,7 +117,8 @@ returns-4 : tie.Need-returns-4 Inv-loop μ-loop
 returns-4 c =
     let l = c .before .before .loop in
     let start = c .before .before .before .before .before .before in
-    going-paused (now (start .args .piece)) (start .args .n) (now (start .args .store)) (l .store) (l .out) (l .read) (l .wrote) (l .count) _ (l .inv .0) (c .pause3 .ensures)
+    going-paused (now (start .args .piece)) (start .args .over) (start .args .n) (now (start .args .store)) (l .store) (l .out) (l .read) (l .wrote) (l .count) _ (l .inv .0)
+    (λ o r. omega (arith, l .inv .0 .read-within, c .before .loop-test .left)) (c .pause3 .ensures)
 
 pub list-spec : {M : Type 1} → statement M
 list-spec =

@@ -50,32 +50,32 @@ finish-requires : tie.Need-finish-requires Inv-loop μ-loop
 finish-requires c κs = search needs
 
 same-length : tie.Need-same-length Inv-loop μ-loop
-same-length c = c .before .before .before .before .before .before .before .loop .inv .same-store ∙ c .before .before .before .before .before .before .before .before .before .before .clear .kept .0
+same-length c = c .before .before .before .before .before .before .before .before .loop .inv .same-store ∙ c .before .before .before .before .before .before .before .before .before .before .before .clear .kept .0
 
 same-length-2 : tie.Need-same-length-2 Inv-loop μ-loop
-same-length-2 c = c .before .before .before .before .before .before .before .loop .inv .same-input
+same-length-2 c = c .before .before .before .before .before .before .before .before .loop .inv .same-input
 
 same-length-3 : tie.Need-same-length-3 Inv-loop μ-loop
-same-length-3 c = c .before .before .finish .kept .0 ∙ c .before .before .before .before .before .before .before .loop .inv .same-output
+same-length-3 c = c .before .before .finish .kept .0 ∙ c .before .before .before .before .before .before .before .before .loop .inv .same-output
 
 returns : tie.Need-returns Inv-loop μ-loop
-returns c = c .before .before .before .before .before .before .before .loop .inv .sound
+returns c = c .before .before .before .before .before .before .before .before .loop .inv .sound
 
 turn-requires : tie.Need-turn-requires Inv-loop μ-loop
 turn-requires c κs =
-    let l = c .before .before .before .before .before .before .loop in
-    let start = c .before .before .before .before .before .before .before .before .before .before .before .before .before .before in
+    let l = c .before .before .before .before .before .before .before .loop in
+    let start = c .before .before .before .before .before .before .before .before .before .before .before .before .before .before .before in
     (start .pre .0, l .inv .sound, l .inv .ordered, l .inv .within, omega (arith, l .inv .same-input, start .pre .2), omega (arith, l .inv .few))
 
 sub-turns : tie.Need-sub-turns Inv-loop μ-loop
-sub-turns c = c .before .before .before .before .before .before .before .before .before .before .before .before .loop-test .taken
+sub-turns c = c .before .before .before .before .before .before .before .before .before .before .before .before .before .loop-test .taken
 
 loop-less : tie.Need-loop-less Inv-loop μ-loop
-loop-less c = omega (arith, c .before .before .before .before .before .before .before .before .before .before .before .before .loop-test .taken)
+loop-less c = omega (arith, c .before .before .before .before .before .before .before .before .before .before .before .before .before .loop-test .taken)
 
 loop-again : tie.Need-loop-again Inv-loop μ-loop
 loop-again c =
-    let l = c .before .before .before .before .before .before .before .before .before .before .before .before .before .loop in
+    let l = c .before .before .before .before .before .before .before .before .before .before .before .before .before .before .loop in
     let u = c .before .before .before .before .before .before .turn in
     record {
       sound = u .ensures .0;
@@ -84,7 +84,7 @@ loop-again c =
       same-store = u .kept .1 .0 ∙ l .inv .same-store;
       same-input = u .kept .1 .1 .0 ∙ l .inv .same-input;
       same-output = u .kept .1 .1 .1 .0 ∙ l .inv .same-output;
-      few = omega (arith, u .ensures .3, l .inv .few, c .before .before .before .before .before .before .before .before .before .before .before .before .loop-test .taken);
+      few = omega (arith, u .ensures .3, l .inv .few, c .before .before .before .before .before .before .before .before .before .before .before .before .before .loop-test .taken);
     }
 
 slice-aggregate-write-all : tie.Need-slice-aggregate-write-all Inv-loop μ-loop
