@@ -1,3 +1,4 @@
 -- What a reading comes to on a store.
 pub mod Laws
+pub mod Own
 pub mod Settled

@@ -4,4 +4,5 @@ pub mod Writes
 pub mod Bounds
 pub mod Laws
 pub mod Turns
+pub mod Own
 pub mod Examples

@@ -65,6 +65,10 @@ endLine n =
     ++ decimal n
     ++ (10 ∷ [])  -- a line feed
 
--- a line at the front of the bytes that are lent, and its length; in less than 64 bytes nothing is written
+-- the room that every line has
+abbrev pub lineRoom : ℕ
+lineRoom = 64
+
+-- a line at the front of the bytes that are lent, and its length; in less room nothing is written
 unfoldable pub put : List ℕ → List ℕ → ℕ × List ℕ
-put line out = cond (ltb (length out) 64) (0, out) (length line, line ++ drop (length line) out)
+put line out = cond (ltb (length out) lineRoom) (0, out) (length line, line ++ drop (length line) out)

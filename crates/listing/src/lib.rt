@@ -1,5 +1,5 @@
 // The lines of the listing (document 01): an ask's two levels, a refusal's number, and the last line with the count.
-// A line is written at the front of the bytes that the caller lends; with less than 64 of them nothing is written.
+// A line is written at the front of the bytes that the caller lends; with less room than every line has nothing is written.
 use answer::Refusal;
 use clerk::Outcome;
 use index::Index;
@@ -10,6 +10,9 @@ ghost use lib.ListN.{length};
 ghost use Rattle.listing.specs.Listing.{decimal, twoDigits, levelText, askLine, refusalLine, endLine, lineOf, put};
 ghost use Rattle.index.specs.declared.Index.the-variants.{Tenths};
 ghost use Rattle.listing.specs.Inner.{lastDigits, written};
+
+// The room that every line has.
+const LINE_ROOM: usize = 64;
 
 // How many digits x has.
 fn digits(x: u64) -> usize
@@ -100,7 +103,7 @@ fn put_level(out: &mut [u8], at: usize, index: Index) -> usize
 pub fn ask_line(n: u64, slot: u16, den: Index, night: Index, out: &mut [u8]) -> usize
     ensures { λ r. ⌜ (r, now (out .exit)) ≡ put (askLine n slot den night) (now (out .entry)) ⌝ }
 {
-    if out.len() < 64 {
+    if out.len() < LINE_ROOM {
         return 0;
     }
     let at = put_decimal(out, 0, n);
@@ -114,7 +117,7 @@ pub fn ask_line(n: u64, slot: u16, den: Index, night: Index, out: &mut [u8]) -> 
 pub fn refusal_line(n: u64, why: Refusal, out: &mut [u8]) -> usize
     ensures { λ r. ⌜ (r, now (out .exit)) ≡ put (refusalLine n why) (now (out .entry)) ⌝ }
 {
-    if out.len() < 64 {
+    if out.len() < LINE_ROOM {
         return 0;
     }
     let at = put_decimal(out, 0, n);
@@ -126,7 +129,7 @@ pub fn refusal_line(n: u64, why: Refusal, out: &mut [u8]) -> usize
 pub fn end_line(n: u64, out: &mut [u8]) -> usize
     ensures { λ r. ⌜ (r, now (out .exit)) ≡ put (endLine n) (now (out .entry)) ⌝ }
 {
-    if out.len() < 64 {
+    if out.len() < LINE_ROOM {
         return 0;
     }
     let at = put_text(out, 0, b"END ");

@@ -2,6 +2,7 @@
 pub mod Rows
 pub mod Laws
 pub mod Calls
+pub mod Own
 pub mod Trips
 pub mod Figures
 pub mod Settled

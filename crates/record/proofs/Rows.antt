@@ -13,7 +13,7 @@ use lib.Seq.{take-at, drop-append-add}
 use Rattle.layout.specs.Layout.{size, sized}
 use Rattle.layout.proofs.Bounds.{both}
 use Rattle.record.specs.Inner.{joined, allWidths, shapeBy, shapeOf}
-use Rattle.record.specs.Kinds.{at, Kind, unlisted, kinds, kindAt, layoutOf}
+use Rattle.record.specs.Kinds.{at, Kind, unlisted, kinds, longest, kindAt, layoutOf}
 
 abbrev every : (Kind → Bool) → List Kind → Bool
 every t [] = true
@@ -73,6 +73,11 @@ module _ (k : ℕ) where
         two = leb-true 2 (length ws) (b .0);
         slot = leb-true (at ws 1) 16 (b .1);
       }
+
+-- no row is longer than the longest
+pub row-longest : (k : ℕ) → size (layoutOf k) ≤ longest
+unfolding kindAt
+row-longest k = leb-true (size (layoutOf k)) longest (at-row (λ (x : Kind). leb (size (x .widths)) longest) kinds k refl refl)
 
 -- ---- the code's tables are these rows
 

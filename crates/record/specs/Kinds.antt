@@ -84,6 +84,10 @@ kinds =
     ∷ kind (4 ∷ 6 ∷ 6 ∷ []) 1 (λ field. Ask (field 1)) (λ field. blank)
     ∷ []
 
+-- no record is longer, in bytes
+abbrev pub longest : ℕ
+longest = 30
+
 unfoldable pub kindAt : ℕ → Kind
 kindAt k = getD kinds k unlisted
 
