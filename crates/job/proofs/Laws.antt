@@ -1,235 +1,321 @@
--- A line put into the output, and records done one after the other. Assumes nothing.
-use Prim.Native.Nat.{ℕ, zero, suc, _+_, _-_, _≤_, _<_}
+-- Bytes at hand, turns and runs: the texts so far, in front of what is left, are the listing of what arrived.
+-- Assumes nothing.
+use Prim.Native.Nat.{ℕ, zero, suc, _+_, _-_, _*_, _≤_, _<_}
 use mathlib.Core.Path.{_≡_, refl, sym, ap, ap₂, _∙_, subst}
-use mathlib.Core.Bool.{Bool, true, false, cond}
+use mathlib.Core.Bool.{Bool, true, false, cond, _||_, _&&_}
 use mathlib.Core.List.{List, [], _∷_, _++_, append-nil, append-assoc}
-use native.Mathlib.Nat.{add-comm}
-use native.Mathlib.Numerals.{add-one}
 use native.Mathlib.Omega.{arith}
-use borrow.Author.Tests.{le-ltb, leb-true, eq-eqb}
-use lib.Dec.{ltb, leb}
-use lib.ListN.{length, take, drop, getD, set, length-set, length-append, length-drop, drop-of-length-le}
-use lib.Seq.{take-all, take-at, take-suc, take-suc-set, drop-set-lt, drop-drop, length-take-le, take-take, take-length, take-append-seam}
-use Rattle.layout.specs.Over.{over}
-use Rattle.listing.specs.Listing.{put, lineOf}
-use Rattle.store.specs.Store.{damaged}
-use Rattle.clerk.specs.declared.Outcome.{Outcome}
-use Rattle.clerk.specs.declared.Deed.{Deed}
-use Rattle.clerk.specs.Clerk.{doneTo}
-use Rattle.clerk.proofs.Laws.{goes-by, goes-within}
-use Rattle.job.specs.declared.piece.Progress.{Progress}
-use Rattle.job.specs.declared.piece.Entry.{Entry}
+use borrow.Author.Tests.{eqb-true, eqb-false, eq-eqb, leb-true, leb-false}
+use lib.Dec.{eqb, leb}
+use lib.ListN.{length, take, drop, length-append, length-drop}
+use lib.Seq.{take-nil, take-at, take-append-le, take-append-add, drop-at, drop-drop, length-take-le}
+use Rattle.layout.specs.Layout.{Bytes}
+use Rattle.layout.proofs.Numbers.{bytes-append, bytes-take, bytes-drop}
+use Rattle.record.specs.Kinds.{longest}
+use Rattle.answer.specs.declared.Refusal.the-variants.{Damaged}
+use Rattle.store.specs.Store.{damaged, storeLength, clearedBytes}
+use Rattle.store.proofs.Laws.{cleared}
+use Rattle.book.specs.declared.Answer.{Answer}
+use Rattle.book.specs.declared.Answer.the-variants.{Done, Refused}
+use Rattle.book.specs.Calls.{clearStore}
+use Rattle.listing.specs.Listing.{lineRoom, endLine}
+use Rattle.machine.specs.declared.State.{State}
+use Rattle.machine.specs.declared.Progress.{Progress}
+use Rattle.machine.specs.Job.{before, ended, listFrom}
+use Rattle.machine.specs.Feed.{left, Fed, Feeds}
+use Rattle.machine.specs.Inner.{part}
+use Rattle.machine.proofs.Rule.{true-false, before-before, left-on, left-stopped, left-none}
+use Rattle.machine.proofs.Lines.{part-length}
 use Rattle.job.specs.declared.pipe.Hand.{Hand}
-use Rattle.job.specs.Job.{Sofar, sofar, goOn, next, after, Listed}
-use Rattle.job.specs.Inner.{Put, Entered, paused, part, Follows}
-
--- ---- a line
-
-module _ (t s : List ℕ) (at : ℕ) (h : at + 64 ≤ length s) where
-  rest-length : length (drop at s) ≡ length s - at
-  rest-length = length-drop at s
-
-  -- there is room for it
-  put-whole : put t (take (length s - at) (drop at s)) ≡ (length t, t ++ drop (at + length t) s)
-  unfolding put
-  put-whole =
-      let e : take (length s - at) (drop at s) ≡ drop at s = take-all (length s - at) (drop at s) (omega (arith, rest-length)) in
-      let f : ltb (length (drop at s)) 64 ≡ false = le-ltb (length (drop at s)) 64 (omega (arith, rest-length)) in
-      ap (λ (r : List ℕ). put t r) e
-      ∙ ap (λ (b : Bool). cond {A = ℕ × List ℕ} b (0, drop at s) (length t, t ++ drop (length t) (drop at s))) f
-      ∙ ap (λ (r : List ℕ). (length t, t ++ r)) (drop-drop (length t) at s)
-
-  -- what was lent comes back with it
-  pub line-put : (n : ℕ) (sub : List ℕ) → (n, sub) ≡ put t (take (length s - at) (drop at s)) → length sub ≡ length (take (length s - at) (drop at s))
-      → Put at t s (at + n) (take at s ++ (sub ++ drop (length s - at) (drop at s)))
-  unfolding over
-  line-put n sub e k =
-      let q = e ∙ put-whole in
-      let a : n ≡ length t = ap (λ (x : ℕ × List ℕ). x .0) q in
-      let b : sub ≡ t ++ drop (at + length t) s = ap (λ (x : ℕ × List ℕ). x .1) q in
-      let z : drop (length s - at) (drop at s) ≡ [] = drop-of-length-le (drop at s) {i = length s - at} (omega (arith, rest-length)) in
-      let w : take (length s - at) (drop at s) ≡ drop at s = take-all (length s - at) (drop at s) (omega (arith, rest-length)) in
-      record {
-        next-is = ap (λ (x : ℕ). at + x) a;
-        within = omega (arith, a, ap length b, length-append t (drop (at + length t) s), k, ap length w, rest-length);
-        with-is = ap (λ (r : List ℕ). take at s ++ r) (ap₂ (λ (x y : List ℕ). x ++ y) b z ∙ append-nil (t ++ drop (at + length t) s));
-      }
-
--- a line lies within
-pub put-within : (t s u : List ℕ) (n : ℕ) → (n, u) ≡ put t s → length u ≡ length s → n ≤ length u
-unfolding put
-put-within t s u n e k = go (ltb (length s) 64) e
-  where
-    go : (b : Bool) → (n, u) ≡ cond {A = ℕ × List ℕ} b (0, s) (length t, t ++ drop (length t) s) → n ≤ length u
-    go true q = omega (arith, ap (λ (x : ℕ × List ℕ). x .0) q)
-    go false q =
-        omega (arith, ap (λ (x : ℕ × List ℕ). x .0) q, ap (λ (x : ℕ × List ℕ). length (x .1)) q, length-append t (drop (length t) s))
-
--- ---- one record
-
-pub entered : (piece store out sub : List ℕ) (at n place : ℕ) (r : Deed) (left : List ℕ) (to : ℕ) (with : List ℕ) → sub ≡ drop at piece
-    → (r, left) ≡ doneTo sub store → damaged left ≡ false → Put place (lineOf n (r .outcome)) out to with
-    → Entered (length (drop at piece)) place n (doneTo (drop at piece) store) out (record { extent = r .extent; wrote = to }) left with
-entered piece store out sub at n place r left to with e q d p =
-    let w : (r, left) ≡ doneTo (drop at piece) store = q ∙ ap (λ (s : List ℕ). doneTo s store) e in
-    let x : r .extent ≡ doneTo (drop at piece) store .0 .extent = ap (λ (o : Deed × List ℕ). o .0 .extent) w in
-    record {
-      extent = x;
-      extent-within = omega (arith, x, goes-within (drop at piece) store);
-      left-is = ap (λ (o : Deed × List ℕ). o .1) w;
-      left-sound = d;
-      line = subst (λ (o : Outcome). Put place (lineOf n o) out to with) (ap (λ (o : Deed × List ℕ). o .0 .outcome) w) p;
-    }
-
-true-false : true ≡ false → ⊥
-true-false e = let z : _≡_ {A = ℕ} 0 1 = cc in omega arith
-
--- ---- records one after the other
-
--- so far: some records are done, in order, and what they print stands at the front of the output
-pub record Going (piece : List ℕ) (n : ℕ) (store₀ store out : List ℕ) (read wrote count : ℕ) : Type 0 where
-  pub records : ℕ
-  pub are : sofar count read store (take wrote out) ≡ after records piece (sofar n 0 store₀ [])
-  pub read-within : read ≤ length piece
-  pub wrote-within : wrote ≤ length out
-  pub count-within : count ≤ n + read
-  pub sound : damaged store ≡ false
-
-pub going-begun : (piece : List ℕ) (n : ℕ) (store out : List ℕ) → damaged store ≡ false → Going piece n store store out 0 0 n
-unfolding after
-going-begun piece n store out d = record {
-  records = 0;
-  are = refl;
-  read-within = omega arith;
-  wrote-within = omega arith;
-  count-within = omega arith;
-  sound = d;
-}
-
--- the output's front with a line more
-front-longer : (out with line : List ℕ) (wrote to : ℕ) → wrote ≤ length out → Put wrote line out to with → take to with ≡ take wrote out ++ line
-unfolding over
-front-longer out with line wrote to h p =
-    let r = drop (wrote + length line) out in
-    let l : length (take wrote out) ≡ wrote = length-take-le wrote out h in
-    ap (take to) (p .with-is ∙ sym (append-assoc (take wrote out) line r))
-    ∙ take-at (take wrote out ++ line) r to (length-append (take wrote out) line ∙ omega (arith, l, p .next-is))
-
-module _ (piece : List ℕ) (n : ℕ) (store₀ store out : List ℕ) (read wrote count : ℕ) (g : Going piece n store₀ store out read wrote count)
-    (r : Entry) (left with : List ℕ)
-    (e : Entered (length (drop read piece)) wrote (count + 1) (doneTo (drop read piece) store) out r left with) where
-  one-more : sofar (count + 1) (read + r .extent) left (take (r .wrote) with) ≡ after (suc (g .records)) piece (sofar n 0 store₀ [])
-  unfolding after
-  one-more =
-      let d = doneTo (drop read piece) store in
-      ap₂ (λ (x : ℕ) (l : List ℕ). sofar (count + 1) (read + x) l (take (r .wrote) with)) (e .extent) (e .left-is)
-      ∙ ap (λ (t : List ℕ). sofar (count + 1) (read + d .0 .extent) (d .1) t) (front-longer out with (lineOf (count + 1) (d .0 .outcome)) wrote (r .wrote) (g .wrote-within) (e .line))
-      ∙ ap (next piece) (g .are)
-
-  rest-length-of : length (drop read piece) ≡ length piece - read
-  rest-length-of = length-drop read piece
-
-  pub going-on : length with ≡ length out → (r .extent ≡ 0 → ⊥) → Going piece n store₀ left with (read + r .extent) (r .wrote) (count + 1)
-  going-on k f = record {
-    records = suc (g .records);
-    are = one-more;
-    read-within = omega (arith, g .read-within, e .extent-within, rest-length-of);
-    wrote-within = omega (arith, e .line .within, k);
-    count-within = omega (arith, g .count-within, f);
-    sound = e .left-sound;
-  }
-
-  pub going-stopped : (over : Bool) → length with ≡ length out → read < length piece → r .extent ≡ 0
-      → Listed piece over n store₀ (record { read = read; wrote = r .wrote; count = count + 1; stopped = true }) left with × (damaged left ≡ false)
-  going-stopped over k l z = (
-    record {
-      records = suc (g .records);
-      are = ap (λ (x : ℕ). sofar (count + 1) x left (take (r .wrote) with)) (omega (arith, z)) ∙ one-more;
-      read-within = g .read-within;
-      wrote-within = omega (arith, e .line .within, k);
-      count-within = omega (arith, g .count-within, l);
-      stops = λ y. sym (goes-by (drop read piece) store) ∙ sym (e .extent) ∙ z;
-      through = λ y. absurd (true-false y);
-    },
-    e .left-sound,
-  )
-
-pub going-paused : (piece : List ℕ) (over : Bool) (n : ℕ) (store₀ store out : List ℕ) (read wrote count : ℕ) (p : Progress) → Going piece n store₀ store out read wrote count
-    → (over ≡ true → 64 ≤ length out - wrote → read ≡ length piece) → p ≡ paused read wrote count
-    → Listed piece over n store₀ p store out × (damaged store ≡ false)
-going-paused piece over n store₀ store out read wrote count p g f e = (
-  subst (λ (q : Progress). Listed piece over n store₀ q store out) (sym e) (record {
-    records = g .records;
-    are = g .are;
-    read-within = g .read-within;
-    wrote-within = g .wrote-within;
-    count-within = omega (arith, g .count-within, g .read-within);
-    stops = λ z. absurd (true-false (sym z));
-    through = λ z. f;
-  }),
-  g .sound,
-)
+use Rattle.job.specs.declared.pipe.Stand.{Stand}
+use Rattle.job.specs.declared.pipe.Last.{Last}
+use Rattle.job.specs.declared.pipe.End.{End}
+use Rattle.job.specs.Job.{Follows, stateIn, atHand, Advanced, Turned, Ended, Ran}
 
 -- ---- bytes at hand
 
--- the bytes moved to the front so far, and the rest as it was
-pub record Moved (from i : ℕ) (s₀ s : List ℕ) : Type 0 where
-  pub size : length s ≡ length s₀
-  pub front : take i s ≡ take i (drop from s₀)
-  pub rest : drop i s ≡ drop i s₀
-
-pub moved-begun : (from : ℕ) (s : List ℕ) → Moved from 0 s s
-moved-begun from s = record { size = refl; front = refl; rest = refl }
-
--- byte k is byte j of what follows the first i
-at-drop : (i j k : ℕ) (s : List ℕ) → k ≡ j + i → getD s k 0 ≡ getD (drop i s) j 0
-at-drop zero j k s e = ap (λ (n : ℕ). getD s n 0) (omega (arith, e))
-at-drop (suc i) j k [] e = refl
-at-drop (suc i) j zero (x ∷ s) e = absurd (let z : _≡_ {A = ℕ} 0 1 = omega (arith, e) in omega arith)
-at-drop (suc i) j (suc k) (x ∷ s) e = at-drop i j k s (omega (arith, e))
-
-pub moved-on : (from i : ℕ) (s₀ s : List ℕ) → from + i < length s₀ → Moved from i s₀ s → Moved from (i + 1) s₀ (set s i (getD s (from + i) 0))
-moved-on from i s₀ s h m =
-    let v = getD s (from + i) 0 in
-    let same : v ≡ getD (drop from s₀) i 0 =
-    at-drop i from (from + i) s refl ∙ ap (λ (t : List ℕ). getD t from 0) (m .rest) ∙ sym (at-drop i from (from + i) s₀ refl)
-    ∙ at-drop from i (from + i) s₀ (add-comm from i)
-    in
-    record {
-      size = length-set s i v ∙ m .size;
-      front =
-          rw add-one
-          (take-suc-set s i v (omega (arith, m .size)) ∙ ap₂ (λ (x : List ℕ) (y : ℕ). x ++ (y ∷ [])) (m .front) same
-          ∙ sym (take-suc (drop from s₀) i 0 (omega (arith, length-drop from s₀))));
-      rest = rw add-one (drop-set-lt (suc i) s i v (omega arith) ∙ drop-cut s ∙ ap (drop 1) (m .rest) ∙ sym (drop-cut s₀));
-    }
-  where
-    drop-cut : (t : List ℕ) → drop (suc i) t ≡ drop 1 (drop i t)
-    drop-cut t = ap (λ (k : ℕ). drop k t) (sym (add-one i)) ∙ sym (drop-drop 1 i t)
-
-pub part-length : (s : List ℕ) (from to : ℕ) → from ≤ to → to ≤ length s → length (part from to s) ≡ to - from
-part-length s from to h l = length-take-le (to - from) (drop from s) (omega (arith, length-drop from s))
-
 -- nothing is fetched
-pub stays-at-hand : (s : List ℕ) (from to : ℕ) (over failed : Bool) → from ≤ to → to ≤ length s
-    → Follows (part from to s) s (record { from = from; to = to; over = over; failed = failed })
-stays-at-hand s from to over failed h l =
-    record { ordered = h; within = l; longer = omega (arith, part-length s from to h l); begins = take-length (part from to s) }
+stays : (over : Bool) (n : ℕ) → over || leb longest n ≡ true → over ≡ false → longest ≤ n
+stays true n e o = absurd (true-false o)
+stays false n e o = leb-true longest n e
+
+pub stays-at-hand : (s : List ℕ) (from to : ℕ) (over failed : Bool) → from ≤ to → to ≤ length s → over || leb longest (to - from) ≡ true
+    → Follows over (part from to s) s (record { from = from; to = to; over = over; failed = failed })
+stays-at-hand s from to over failed h l t =
+    record {
+      ordered = h;
+      within = l;
+      more = [];
+      more-bytes = λ i. omega arith;
+      are = sym (append-nil (part from to s));
+      quiet = λ e. refl;
+      stays-over = λ e. e;
+      fetches = λ e f. absurd (let w = stays over (to - from) t e in let n = part-length s from to h l in omega arith);
+    }
+
+-- what stands behind some bytes is bytes
+behind : (s was more : List ℕ) (from to : ℕ) → Bytes s → part from to s ≡ was ++ more → Bytes more
+behind s was more from to b e =
+    subst Bytes (drop-at was more (length was) refl)
+    (bytes-drop (length was) (was ++ more) (subst Bytes e (bytes-take (to - from) (drop from s) (bytes-drop from s b))))
 
 -- more is fetched behind the first bytes, which stay
-pub fetched : (s sub : List ℕ) (held more : ℕ) (over failed : Bool) → held ≤ length s → length sub ≡ length (take (length s - held) (drop held s)) → held + more ≤ length s
-    → Follows (take held s) (take held s ++ (sub ++ drop (length s - held) (drop held s))) (record { from = 0; to = held + more; over = over; failed = failed })
-fetched s sub held more over failed h l m =
-    let n : length (take held s) ≡ held = length-take-le held s h in
-    let w : length (take (length s - held) (drop held s)) ≡ length s - held = length-take-le (length s - held) (drop held s) (omega (arith, length-drop held s)) in
-    let r = sub ++ drop (length s - held) (drop held s) in
-    let k : length (take held s ++ r) ≡ held + length r = length-append (take held s) r ∙ ap (λ (x : ℕ). x + length r) n in
-    let j : length r ≡ length sub + length (drop (length s - held) (drop held s)) = length-append sub (drop (length s - held) (drop held s)) in
+pub fetched : (s sub : List ℕ) (at more : ℕ) (failed : Bool) → at ≤ length s → length sub ≡ length (take (length s - at) (drop at s)) → at + more ≤ length s
+    → Bytes (take at s ++ (sub ++ drop (length s - at) (drop at s)))
+    → Follows false (take at s) (take at s ++ (sub ++ drop (length s - at) (drop at s)))
+    (record { from = 0; to = at + more; over = eqb more 0; failed = failed })
+fetched s sub at more failed h l m b =
+    let n : length (take at s) ≡ at = length-take-le at s h in
+    let w : length (take (length s - at) (drop at s)) ≡ length s - at = length-take-le (length s - at) (drop at s) (omega (arith, length-drop at s)) in
+    let e = drop (length s - at) (drop at s) in
+    let r = sub ++ e in
+    let k : length (take at s ++ r) ≡ at + length r = length-append (take at s) r ∙ ap (λ (x : ℕ). x + length r) n in
+    let j : length r ≡ length sub + length e = length-append sub e in
+    let z : at + more - 0 ≡ length (take at s) + more = omega (arith, n) in
+    let are : part 0 (at + more) (take at s ++ r) ≡ take at s ++ take more sub =
+    ap (λ (x : ℕ). take x (take at s ++ r)) z
+    ∙ take-append-add (take at s) r more
+    ∙ ap (λ (x : List ℕ). take at s ++ x) (take-append-le more sub e (omega (arith, l, w))) in
     record {
       ordered = omega arith;
       within = omega (arith, k, j, l, w);
-      longer = omega (arith, n);
-      begins =
-          take-take (length (take held s)) (held + more - 0) (take held s ++ r) (omega (arith, n))
-          ∙ take-append-seam (take held s) r;
+      more = take more sub;
+      more-bytes = behind (take at s ++ r) (take at s) (take more sub) 0 (at + more) b are;
+      are = are;
+      quiet = λ y. ap (λ (x : ℕ). take x sub) (eqb-true more 0 y);
+      stays-over = λ y. absurd (true-false (sym y));
+      fetches = λ y f. let q = eqb-false more 0 y in omega (arith, q, length-take-le more sub (omega (arith, l, w)));
+    }
+
+-- what was not over is fetched behind
+or-left : (over b : Bool) → over || b ≡ false → over ≡ true → ⊥
+or-left true b e o = true-false e
+or-left false b e o = true-false (sym o)
+
+pub short-of : (over : Bool) (n : ℕ) → over || leb longest n ≡ false → n < longest
+short-of true n e = absurd (true-false e)
+short-of false n e = leb-false longest n e
+
+-- the bytes held at the front
+pub held-front : (s s′ : List ℕ) (from to : ℕ) → from ≤ to → to ≤ length s → s′ ≡ part from to s ++ drop (to - from) s → take (to - from) s′ ≡ part from to s
+held-front s s′ from to h l e = ap (take (to - from)) e ∙ take-at (part from to s) (drop (to - from) s) (to - from) (part-length s from to h l)
+
+pub refilled : (over b : Bool) (was was′ s : List ℕ) (h : Hand) → over || b ≡ false → was ≡ was′ → Follows false was s h → Follows over was′ s h
+refilled over b was was′ s h e q f =
+    record {
+      ordered = f .ordered;
+      within = f .within;
+      more = f .more;
+      more-bytes = f .more-bytes;
+      are = f .are ∙ ap (λ (x : List ℕ). x ++ f .more) q;
+      quiet = f .quiet;
+      stays-over = λ o. absurd (or-left over b e o);
+      fetches = λ y k. f .fetches y (omega (arith, ap length q));
+    }
+
+-- ---- a feed of the bytes at hand
+
+drop-take : (k n : ℕ) (l : List ℕ) → drop k (take n l) ≡ take (n - k) (drop k l)
+drop-take zero n l = let e : n ≡ n - 0 = omega arith in ap (λ (x : ℕ). take x l) e
+drop-take (suc k) zero l = let e : 0 ≡ 0 - suc k = omega arith in ap (λ (x : ℕ). take x (drop (suc k) l)) e
+drop-take (suc k) (suc n) [] = sym (take-nil (suc n - suc k))
+drop-take (suc k) (suc n) (x ∷ l) = let e : n - k ≡ suc n - suc k = omega arith in drop-take k n l ∙ ap (λ (y : ℕ). take y (drop k l)) e
+
+-- the bytes at hand without the first k
+part-after : (from to k : ℕ) (s : List ℕ) → drop k (part from to s) ≡ part (from + k) to s
+part-after from to k s =
+    let e : to - from - k ≡ to - (from + k) = omega arith in
+    drop-take k (to - from) (drop from s) ∙ ap₂ (λ (x : ℕ) (l : List ℕ). take x l) e (drop-drop k from s)
+
+pub advanced : (hand : Hand) (x : State) (input store out : List ℕ) (p : Progress) (store′ out′ : List ℕ) (told : Bool)
+    → hand .from ≤ hand .to → hand .to ≤ length input → length input ≤ 65536 → length out′ ≡ length out → damaged store′ ≡ false
+    → Feeds (hand .over) x (part (hand .from) (hand .to) input) store out p store′ out′
+    → Advanced hand x input store
+    (record {
+      start = hand .from;
+      from = hand .from + p .used;
+      to = hand .to;
+      over = hand .over;
+      count = p .count;
+      stopped = p .stopped;
+      wrote = p .wrote;
+      unread = false;
+      unwritten = told;
+    }) store′ out′
+advanced hand x input store out p store′ out′ told h l m o d f =
+    let n : length (part (hand .from) (hand .to) input) ≡ hand .to - hand .from = part-length input (hand .from) (hand .to) h l in
+    record {
+      start-is = refl;
+      to-is = refl;
+      over-is = refl;
+      ordered = omega (arith, f .used-within, n);
+      few = omega (arith, f .count-within, n);
+      sound = d;
+      fed = λ later b g.
+          ap (λ (s : List ℕ). before (take (p .wrote) out′) (left (record { count = p .count; stopped = p .stopped }) (s ++ later) store′))
+          (sym (part-after (hand .from) (hand .to) (p .used) input))
+          ∙ f .fed later b g;
+      waits = λ e r.
+          let w = f .waits e (omega arith) in
+          (λ y. let q = w .0 y in omega arith, omega (arith, w .1));
+    }
+
+-- ---- a turn
+
+module _ (s : Stand) (input store : List ℕ) (hand : Hand) (input′ : List ℕ)
+    (f : Follows (s .over) (part (s .from) (s .to) input) input′ hand) where
+  pub turned : (r : Stand) (store′ output′ : List ℕ) → Advanced hand (stateIn s) input′ store r store′ output′
+      → Turned s input store r input′ store′ output′
+  turned r store′ output′ a =
+      record {
+        ordered = a .ordered;
+        within = omega (arith, a .to-is, f .within);
+        few = a .few;
+        sound = a .sound;
+        more = f .more;
+        more-bytes = f .more-bytes;
+        are = ap₂ (λ (x y : ℕ). part x y input′) (a .start-is) (a .to-is) ∙ f .are;
+        quiet = λ e. f .quiet (sym (a .over-is) ∙ e);
+        stays-over = λ e. a .over-is ∙ f .stays-over e;
+        fed = λ later b g. a .fed later b (λ e. g (a .over-is ∙ e)) ∙ ap (λ (l : List ℕ). left (stateIn s) (l ++ later) store) (f .are);
+        fetches = λ e. f .fetches (sym (a .over-is) ∙ e);
+        waits = λ u. a .waits;
+      }
+
+  -- where nothing could be read, nothing is done
+  pub turned-unread : (output : List ℕ) → damaged store ≡ false
+      → Turned s input store
+      (record {
+        start = hand .from;
+        from = hand .from;
+        to = hand .to;
+        over = hand .over;
+        count = s .count;
+        stopped = s .stopped;
+        wrote = 0;
+        unread = true;
+        unwritten = false;
+      }) input′ store output
+  turned-unread output d =
+      record {
+        ordered = f .ordered;
+        within = f .within;
+        few = omega arith;
+        sound = d;
+        more = f .more;
+        more-bytes = f .more-bytes;
+        are = f .are;
+        quiet = f .quiet;
+        stays-over = f .stays-over;
+        fed = λ later b g. ap (λ (l : List ℕ). left (stateIn s) (l ++ later) store) (f .are);
+        fetches = f .fetches;
+        waits = λ u. absurd (true-false u);
+      }
+
+-- ---- a run
+
+-- a store of the right length is cleared
+pub cleared-is : (s u : List ℕ) (a : Answer) → length s ≡ storeLength → (a, u) ≡ clearStore s → u ≡ clearedBytes
+unfolding clearStore
+cleared-is s u a l e =
+    ap (λ (o : Answer × List ℕ). o .1)
+    (e ∙ ap (λ (b : Bool). cond {A = Answer × List ℕ} b (Done, clearedBytes) (Refused Damaged, s)) (eq-eqb (length s) storeLength l))
+
+pub record Running (store₀ input₀ output₀ store input output : List ℕ) (s : Stand) (turns : ℕ) : Type 0 where
+  pub ordered : s .from ≤ s .to
+  pub within : s .to ≤ length input
+  pub same-store : length store ≡ length store₀
+  pub same-input : length input ≡ length input₀
+  pub same-output : length output ≡ length output₀
+  pub few : s .count + 65536 * turns ≤ 9223372036854775808
+  pub sound : damaged store ≡ false
+  pub arrived : List ℕ
+  pub text : List ℕ
+  pub same : (later : List ℕ) → Bytes later → (s .over ≡ true → later ≡ [])
+      → before text (left (stateIn s) (atHand s input ++ later) store) ≡ listFrom 0 (arrived ++ later) clearedBytes
+
+pub running-begun : (store input output : List ℕ) (s : Stand) (turns : ℕ) → s .from ≡ 0 → s .to ≡ 0 → s .count ≡ 0 → s .stopped ≡ false
+    → store ≡ clearedBytes → 65536 * turns ≤ 9223372036854775808 → Running store input output store input output s turns
+running-begun store input output s turns a b c d z h =
+    record {
+      ordered = omega arith;
+      within = omega arith;
+      same-store = refl;
+      same-input = refl;
+      same-output = refl;
+      few = omega arith;
+      sound = ap damaged z ∙ cleared .whole;
+      arrived = [];
+      text = [];
+      same = λ later q f.
+          let e : s .to - s .from ≡ 0 = omega arith in
+          left-on (stateIn s) (atHand s input ++ later) store d
+          ∙ ap₂ (λ (n k : ℕ). listFrom n (take k (drop (s .from) input) ++ later) store) c e
+          ∙ ap (listFrom 0 later) z;
+    }
+
+none-append : (x y : List ℕ) → x ≡ [] → y ≡ [] → x ++ y ≡ []
+none-append x y e f = ap₂ (λ (a b : List ℕ). a ++ b) e f
+
+pub running-on : (store₀ input₀ output₀ store input output : List ℕ) (s : Stand) (turns turns′ : ℕ) (r : Stand) (input′ store′ output′ : List ℕ)
+    → Running store₀ input₀ output₀ store input output s turns → turns ≡ turns′ + 1
+    → length store′ ≡ length store → length input′ ≡ length input → length output′ ≡ length output
+    → Turned s input store r input′ store′ output′ → Running store₀ input₀ output₀ store′ input′ output′ r turns′
+running-on store₀ input₀ output₀ store input output s turns turns′ r input′ store′ output′ g k a b c t =
+    record {
+      ordered = t .ordered;
+      within = t .within;
+      same-store = a ∙ g .same-store;
+      same-input = b ∙ g .same-input;
+      same-output = c ∙ g .same-output;
+      few = omega (arith, t .few, g .few);
+      sound = t .sound;
+      arrived = g .arrived ++ t .more;
+      text = g .text ++ take (r .wrote) output′;
+      same = λ later y f.
+          before-before (g .text) (take (r .wrote) output′) (left (stateIn r) (atHand r input′ ++ later) store′)
+          ∙ ap (before (g .text)) (t .fed later y f ∙ ap (λ (l : List ℕ). left (stateIn s) l store) (append-assoc (atHand s input) (t .more) later))
+          ∙ g .same (t .more ++ later) (bytes-append (t .more) later (t .more-bytes) y) (λ e. none-append (t .more) later (t .quiet (t .stays-over e)) (f (t .stays-over e)))
+          ∙ ap (λ (l : List ℕ). listFrom 0 l clearedBytes) (sym (append-assoc (g .arrived) (t .more) later));
+    }
+
+-- nothing is left where the job has stopped, or the input is over and no byte is at hand
+nothing-left : (s : Stand) (input store later : List ℕ) → s .stopped || (s .over && eqb (s .from) (s .to)) ≡ true → (s .over ≡ true → later ≡ [])
+    → left (stateIn s) (atHand s input ++ later) store ≡ ended (s .count) store
+nothing-left s input store later e f = go (s .stopped) (s .over) refl refl e
+  where
+    go : (a b : Bool) → s .stopped ≡ a → s .over ≡ b → a || (b && eqb (s .from) (s .to)) ≡ true
+        → left (stateIn s) (atHand s input ++ later) store ≡ ended (s .count) store
+    go true b p q z = left-stopped (stateIn s) (atHand s input ++ later) store p
+    go false false p q z = absurd (true-false (sym z))
+    go false true p q z =
+        let w : s .to - s .from ≡ 0 = omega (arith, eqb-true (s .from) (s .to) z) in
+        ap (λ (l : List ℕ). left (stateIn s) l store) (none-append (atHand s input) later (ap (λ (k : ℕ). take k (drop (s .from) input)) w) (f q))
+        ∙ left-none (stateIn s) store
+
+pub finished : (store₀ input₀ output₀ store input output : List ℕ) (s : Stand) (turns : ℕ) (last : Last) (output′ : List ℕ)
+    → Running store₀ input₀ output₀ store input output s turns → s .stopped || (s .over && eqb (s .from) (s .to)) ≡ true
+    → Ended (s .count) last output′
+    → Ran (record { whole = last .told; over = s .over; count = s .count; wrote = last .wrote }) store output′
+finished store₀ input₀ output₀ store input output s turns last output′ g e p =
+    record {
+      sound = g .sound;
+      arrived = g .arrived;
+      text = g .text;
+      lists = λ w later b f.
+          ap (λ (t : List ℕ). (g .text ++ t, store)) (p .last)
+          ∙ ap (before (g .text)) (sym (nothing-left s input store later e f))
+          ∙ g .same later b f;
+      last = λ w. p .last;
+    }
+
+pub broken : (over : Bool) (count : ℕ) (store′ output′ : List ℕ) → damaged store′ ≡ false
+    → Ran (record { whole = false; over = over; count = count; wrote = 0 }) store′ output′
+broken over count store′ output′ d =
+    record {
+      sound = d;
+      arrived = [];
+      text = [];
+      lists = λ w. absurd (true-false (sym w));
+      last = λ w. absurd (true-false (sym w));
     }

@@ -1,2 +1,2 @@
--- Laws of the job program: a line put into the output, records done one after the other, bytes moved to the front.
+-- Laws of the job program: bytes at hand, a turn, a run.
 pub mod Laws

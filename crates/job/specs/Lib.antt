@@ -1,2 +1,2 @@
+-- What the program promises.
 pub mod Job
-pub mod Inner

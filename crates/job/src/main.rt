@@ -1,6 +1,5 @@
 // The job program: a job from standard input is done to a cleared book, and its listing goes to standard output.
 // Input and output move in large pieces; memory does not grow with the job.
-mod piece;
 mod pipe;
 
 ghost use mathlib.Core.Path.{_≡_};

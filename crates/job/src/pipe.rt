@@ -1,18 +1,22 @@
 // The way of a job through the program: input is read when less than a record is at hand, output is written piece by piece.
-// The book is cleared at the start and stays undamaged.
-use crate::piece;
+// All that a job means is done by the machine; here bytes come in and texts go out.
 use libc::STDERR_FILENO;
 use libc::STDIN_FILENO;
 use libc::STDOUT_FILENO;
+use machine::LONGEST;
+use machine::State;
 ghost use mathlib.Core.Path.{_≡_};
 ghost use mathlib.Core.Bool.{false};
-ghost use Prim.Native.Nat.{_+_, _-_, _*_, _≤_, _<_};
+ghost use Prim.Native.Nat.{_+_, _-_, _≤_, _<_};
 ghost use lib.ListN.{length, take};
 ghost use Rattle.level.specs.Table.{table};
-ghost use Rattle.store.specs.Store.{damaged};
-ghost use Rattle.job.specs.Inner.{part, Follows};
+ghost use Rattle.record.specs.Kinds.{longest};
+ghost use Rattle.store.specs.Store.{damaged, storeLength};
+ghost use Rattle.listing.specs.Listing.{lineRoom};
+ghost use Rattle.machine.specs.Inner.{part};
+ghost use Rattle.job.specs.Job.{Follows, Advanced, Turned, Ended, Ran};
 
-// How many pieces a job may have: a number that none reaches, and that keeps the count of records below 2^63.
+// How many turns a job may have: a number that none reaches, and that keeps the count of records below 2^63.
 const TURNS: u64 = 140737488355328;
 
 // The bytes at hand: from one place of the input to another, and whether the input is over or could not be read.
@@ -23,34 +27,38 @@ pub struct Hand {
     pub failed: bool,
 }
 
-// How the program stands: what is at hand, the records tried, whether the listing is through, and whether input could not be
-// read or output not be written.
-struct Stand {
-    from: usize,
-    to: usize,
-    over: bool,
-    count: u64,
-    done: bool,
-    unread: bool,
-    unwritten: bool,
+// How the program stands after a turn: the turn had the bytes from `start` to `to`, and left those from `from` on; it handed out so
+// many bytes of text; the job's state; and whether input could not be read or output not be written.
+pub struct Stand {
+    pub start: usize,
+    pub from: usize,
+    pub to: usize,
+    pub over: bool,
+    pub count: u64,
+    pub stopped: bool,
+    pub wrote: usize,
+    pub unread: bool,
+    pub unwritten: bool,
 }
 
-// Moves the bytes at hand to the front.
-fn shift(input: &mut [u8], from: usize, to: usize)
-    requires { ⌜ (from ≤ to) × (to ≤ length (now input)) ⌝ }
-    ensures { λ _. ⌜ take (to - from) (now (input .exit)) ≡ part from to (now (input .entry)) ⌝ }
-{
-    let mut i = 0;
-    while i < to - from {
-        input[i] = input[from + i];
-        i += 1;
-    }
+// The last line: its length, and whether it was written.
+pub struct Last {
+    pub wrote: usize,
+    pub told: bool,
 }
 
-// Reads behind the first `held` bytes of the input.
+// How a run ends: whether the whole listing was written, whether the input was over, the records tried, and the length of the last line.
+pub struct End {
+    pub whole: bool,
+    pub over: bool,
+    pub count: u64,
+    pub wrote: usize,
+}
+
+// Reads behind the first `held` bytes of the input, where there is room for a byte at least: so a read of nothing is the end.
 fn fetch(input: &mut [u8], held: usize) -> Hand
-    requires { ⌜ held ≤ length (now input) ⌝ }
-    ensures { λ r. ⌜ Follows (take held (now (input .entry))) (now (input .exit)) r ⌝ }
+    requires { ⌜ held < length (now input) ⌝ }
+    ensures { λ r. ⌜ Follows false (take held (now (input .entry))) (now (input .exit)) r ⌝ }
 {
     let got = libc::read(STDIN_FILENO, &mut input[held..]);
     let more = io::count(got, &input[held..]);
@@ -64,10 +72,10 @@ fn fetch(input: &mut [u8], held: usize) -> Hand
 
 // Makes sure that a whole record is at hand, or that the input is over.
 fn refill(input: &mut [u8], from: usize, to: usize, over: bool) -> Hand
-    requires { ⌜ (from ≤ to) × (to ≤ length (now input)) ⌝ }
-    ensures { λ r. ⌜ Follows (part from to (now (input .entry))) (now (input .exit)) r ⌝ }
+    requires { ⌜ (from ≤ to) × (to ≤ length (now input)) × (longest ≤ length (now input)) ⌝ }
+    ensures { λ r. ⌜ Follows over (part from to (now (input .entry))) (now (input .exit)) r ⌝ }
 {
-    if over | (30 <= to - from) {
+    if over | (LONGEST <= to - from) {
         return Hand {
             from,
             to,
@@ -75,7 +83,7 @@ fn refill(input: &mut [u8], from: usize, to: usize, over: bool) -> Hand
             failed: false,
         };
     }
-    shift(input, from, to);
+    machine::hold(input, from, to);
     fetch(input, to - from)
 }
 
@@ -86,23 +94,25 @@ fn advance(
     input: &[u8],
     output: &mut [u8],
     hand: Hand,
-    count: u64,
+    x: State,
 ) -> Stand
-    requires { ⌜ (now steps ≡ table) × (damaged (now store) ≡ false) × (hand .from ≤ hand .to) × (hand .to ≤ length (now input)) × (length (now input) ≤ 65536) × (count + 65536 < 18446744073709551616) ⌝ }
-    ensures { λ r. ⌜ (damaged (now (store .exit)) ≡ false) × (r .from ≤ r .to) × (r .to ≤ length (now (input .entry))) × (r .count ≤ count + 65536) ⌝ }
+    requires { ⌜ (now steps ≡ table) × (damaged (now store) ≡ false) × (hand .from ≤ hand .to) × (hand .to ≤ length (now input)) × (length (now input) ≤ 65536) × (x .count + 65536 < 18446744073709551616) ⌝ }
+    ensures { λ r. ⌜ Advanced hand x (now (input .entry)) (now (store .entry)) r (now (store .exit)) (now (output .exit)) ⌝ }
 {
     let from = hand.from;
     let to = hand.to;
-    let p = piece::list(steps, store, &input[from..to], hand.over, count, output);
+    let p = machine::feed(steps, x, store, &input[from..to], hand.over, output);
     let wrote = p.wrote;
     let told = io::write_all(STDOUT_FILENO, &output[..wrote]);
-    let next = from + p.read;
+    let next = from + p.used;
     Stand {
+        start: from,
         from: next,
         to,
         over: hand.over,
         count: p.count,
-        done: p.stopped | (hand.over & (next == to)),
+        stopped: p.stopped,
+        wrote,
         unread: false,
         unwritten: !told,
     }
@@ -116,69 +126,95 @@ fn turn(
     output: &mut [u8],
     s: Stand,
 ) -> Stand
-    requires { ⌜ (now steps ≡ table) × (damaged (now store) ≡ false) × (s .from ≤ s .to) × (s .to ≤ length (now input)) × (length (now input) ≤ 65536) × (s .count + 65536 < 18446744073709551616) ⌝ }
-    ensures { λ r. ⌜ (damaged (now (store .exit)) ≡ false) × (r .from ≤ r .to) × (r .to ≤ length (now (input .entry))) × (r .count ≤ s .count + 65536) ⌝ }
+    requires { ⌜ (now steps ≡ table) × (damaged (now store) ≡ false) × (s .from ≤ s .to) × (s .to ≤ length (now input)) × (longest ≤ length (now input)) × (length (now input) ≤ 65536) × (s .count + 65536 < 18446744073709551616) ⌝ }
+    ensures { λ r. ⌜ Turned s (now (input .entry)) (now (store .entry)) r (now (input .exit)) (now (store .exit)) (now (output .exit)) ⌝ }
 {
     let hand = refill(input, s.from, s.to, s.over);
     if hand.failed {
         return Stand {
+            start: hand.from,
             from: hand.from,
             to: hand.to,
             over: hand.over,
             count: s.count,
-            done: false,
+            stopped: s.stopped,
+            wrote: 0,
             unread: true,
             unwritten: false,
         };
     }
-    advance(steps, store, input, output, hand, s.count)
+    let x = State {
+        count: s.count,
+        stopped: s.stopped,
+    };
+    advance(steps, store, input, output, hand, x)
 }
 
 // Says on standard error what went wrong.
-fn complain(s: Stand) {
-    if s.unread {
+fn complain(unread: bool, unwritten: bool) {
+    if unread {
         io::write_all(STDERR_FILENO, b"job: standard input cannot be read\n");
     }
-    if s.unwritten {
+    if unwritten {
         io::write_all(STDERR_FILENO, b"job: standard output cannot be written\n");
+    }
+    if !unread & !unwritten {
+        io::write_all(STDERR_FILENO, b"job: the job is too long\n");
     }
 }
 
-// The last line, or what went wrong.
-fn finish(output: &mut [u8], s: Stand) {
-    if s.unread | s.unwritten {
-        complain(s);
-        return;
+// The last line.
+fn finish(output: &mut [u8], count: u64) -> Last
+    requires { ⌜ lineRoom ≤ length (now output) ⌝ }
+    ensures { λ r. ⌜ Ended count r (now (output .exit)) ⌝ }
+{
+    let wrote = listing::end_line(count, output);
+    let told = io::write_all(STDOUT_FILENO, &output[..wrote]);
+    if !told {
+        complain(false, true);
     }
-    let n = listing::end_line(s.count, output);
-    if !io::write_all(STDOUT_FILENO, &output[..n]) {
-        io::write_all(STDERR_FILENO, b"job: standard output cannot be written\n");
-    }
+    Last { wrote, told }
 }
 
 // Runs a job, from a cleared store to the last line.
-pub fn run(steps: &[u32; 1000], store: &mut [u8], input: &mut [u8], output: &mut [u8])
-    requires { ⌜ (now steps ≡ table) × (length (now store) ≡ 20544) × (length (now input) ≤ 65536) ⌝ }
-    ensures { λ _. ⌜ damaged (now (store .exit)) ≡ false ⌝ }
+pub fn run(steps: &[u32; 1000], store: &mut [u8], input: &mut [u8], output: &mut [u8]) -> End
+    requires { ⌜ (now steps ≡ table) × (length (now store) ≡ storeLength) × (longest ≤ length (now input)) × (length (now input) ≤ 65536) × (lineRoom ≤ length (now output)) ⌝ }
+    ensures { λ r. ⌜ Ran r (now (store .exit)) (now (output .exit)) ⌝ }
 {
     book::clear(store);
     let mut s = Stand {
+        start: 0,
         from: 0,
         to: 0,
         over: false,
         count: 0,
-        done: false,
+        stopped: false,
+        wrote: 0,
         unread: false,
         unwritten: false,
     };
     let mut turns: u64 = TURNS;
     while 0 < turns {
-        if s.done | s.unread | s.unwritten {
-            finish(output, s);
-            return;
+        if s.unread | s.unwritten {
+            break;
+        }
+        if s.stopped | (s.over & (s.from == s.to)) {
+            let last = finish(output, s.count);
+            return End {
+                whole: last.told,
+                over: s.over,
+                count: s.count,
+                wrote: last.wrote,
+            };
         }
         s = turn(steps, store, input, output, s);
         turns -= 1;
     }
-    io::write_all(STDERR_FILENO, b"job: the job is too long\n");
+    complain(s.unread, s.unwritten);
+    End {
+        whole: false,
+        over: s.over,
+        count: s.count,
+        wrote: 0,
+    }
 }

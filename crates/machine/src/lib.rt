@@ -34,7 +34,7 @@ pub struct Entry {
 }
 
 // The bytes of the longest record.
-const LONGEST: usize = 30;
+pub const LONGEST: usize = 30;
 
 // The room that every line has.
 const LINE_ROOM: usize = 64;

@@ -1,6 +1,5 @@
 -- `fetch` lends the bytes behind those at hand to the read, which leaves the others. Assumes nothing.
 use native.Mathlib.Omega.{arith}
-use mathlib.Core.Path.{_∙_}
 use denote.Ref.{now}
 use borrow.Author.Needs.{needs}
 use Rattle.job.proofs.Laws.{fetched}
@@ -40,7 +39,9 @@ same-length c = search needs
 returns : tie.Need-returns
 returns c =
     let start = c .before .before .before .before .before .before .before .before in
-    fetched (now (start .args .input)) (c .before .before .before .before .before .read .last .1 .0) (start .args .held) (c .count .result) _ _ (start .pre) (c .before .before .before .before .before .read .kept .1 .0) (search needs)
+    let r = c .before .before .before .before .before .read in
+    fetched (now (start .args .input)) (r .last .1 .0) (start .args .held) (c .count .result) _ (omega (arith, start .pre)) (r .kept .1 .0) (search needs)
+    (λ i. c .before .before .before .slice-known2 .given i .fits)
 
 pub fetch-spec : {M : Type 1} → statement M
 fetch-spec =
