@@ -81,6 +81,29 @@ pub fn keep(name: &str, bytes: &[u8]) -> String {
     }
 }
 
+/// The first line in which two listings differ.
+pub fn difference(expected: &[u8], found: &[u8]) -> String {
+    let lines = |listing: &[u8]| -> Vec<String> {
+        let pieces = listing.split_inclusive(|&byte| byte == b'\n');
+        pieces
+            .map(|line| format!("{:?}", String::from_utf8_lossy(line)))
+            .collect()
+    };
+    let (expected, found) = (lines(expected), lines(found));
+    let same = expected
+        .iter()
+        .zip(&found)
+        .take_while(|(a, b)| a == b)
+        .count();
+    let line = |listing: &[String]| listing.get(same).cloned().unwrap_or("nothing".to_string());
+    format!(
+        "line {}: the reference has {}, the program {}",
+        same + 1,
+        line(&expected),
+        line(&found)
+    )
+}
+
 /// A probe: its name, what goes into the program, and the head and the bytes that have to come.
 pub struct Probe {
     pub name: String,

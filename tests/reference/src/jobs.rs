@@ -23,6 +23,19 @@ pub fn job(seed: u64) -> Vec<u8> {
     kind(&mut Chance::new(seed))
 }
 
+/// The bytes that a long job passes: more than twice what a program holds at a time.
+const LONG: usize = 140_000;
+
+/// Many busy jobs end to end, none of which stops.
+pub fn long_job(seed: u64) -> Vec<u8> {
+    let mut chance = Chance::new(seed);
+    let mut job = Vec::new();
+    while job.len() < LONG {
+        job.extend(churn(&mut chance));
+    }
+    job
+}
+
 /// A town in which every record is taken.
 fn town(chance: &mut Chance) -> Vec<u8> {
     peaceful_town(chance, 600).bytes

@@ -10,6 +10,7 @@ pub mod jobs;
 pub mod level;
 pub mod limits;
 pub mod listing;
+pub mod pieces;
 #[cfg(test)]
 mod power;
 pub mod probe;

@@ -1,7 +1,7 @@
 // Compares the listings of a job program with the reference's, on jobs by chance.
 // Every job stands for a seed, and a seed alone with a count of 1 makes that job again.
 
-use reference::compare::{keep, output_of, refusal_counts, run, Order};
+use reference::compare::{difference, keep, output_of, refusal_counts, run, Order};
 use reference::fixed::fixed_jobs;
 use reference::jobs::job;
 use reference::listing::{list, Tally};
@@ -40,27 +40,4 @@ fn compare_job(order: &Order, name: &str, job: &[u8]) -> Result<Tally, String> {
     };
     let kept = keep(&format!("{name}.job"), job);
     Err(format!("job {name} differs\n{report}\n{kept}"))
-}
-
-/// The first line in which two listings differ.
-fn difference(expected: &[u8], found: &[u8]) -> String {
-    let lines = |listing: &[u8]| -> Vec<String> {
-        let pieces = listing.split_inclusive(|&byte| byte == b'\n');
-        pieces
-            .map(|line| format!("{:?}", String::from_utf8_lossy(line)))
-            .collect()
-    };
-    let (expected, found) = (lines(expected), lines(found));
-    let same = expected
-        .iter()
-        .zip(&found)
-        .take_while(|(a, b)| a == b)
-        .count();
-    let line = |listing: &[String]| listing.get(same).cloned().unwrap_or("nothing".to_string());
-    format!(
-        "line {}: the reference has {}, the program {}",
-        same + 1,
-        line(&expected),
-        line(&found)
-    )
 }
