@@ -4,3 +4,4 @@ pub mod Lines
 pub mod Feeding
 pub mod Good
 pub mod Pieces
+pub mod Settled
