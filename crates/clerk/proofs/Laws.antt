@@ -10,12 +10,12 @@ use lib.ListN.{length}
 use Rattle.answer.specs.declared.Refusal.{Refusal}
 use Rattle.answer.specs.declared.Refusal.the-variants.{Damaged}
 use Rattle.road.specs.declared.Source.{Source}
-use Rattle.record.specs.declared.Call.{Call as Request}
-use Rattle.record.specs.declared.Call.the-variants as request
-use Rattle.record.specs.declared.Told.{Told}
-use Rattle.record.specs.declared.Told.the-variants as told
-use Rattle.record.specs.Record.{lengthOf, readOf, extentOf}
-use Rattle.record.proofs.Trips.{three-periods}
+use Rattle.codec.specs.declared.Call.{Call as Request}
+use Rattle.codec.specs.declared.Call.the-variants as request
+use Rattle.codec.specs.declared.Told.{Told}
+use Rattle.codec.specs.declared.Told.the-variants as told
+use Rattle.codec.specs.Record.{lengthOf, readOf, extentOf}
+use Rattle.codec.proofs.Trips.{three-periods}
 use Rattle.store.specs.Store.{Book, damaged, bookOf}
 use Rattle.book.specs.declared.Answer.{Answer}
 use Rattle.book.specs.declared.Answer.the-variants as answer

@@ -5,12 +5,12 @@ use mathlib.Core.List.{List}
 use Rattle.answer.specs.declared.Refusal.{Refusal}
 use Rattle.road.specs.declared.Source.{Source}
 use Rattle.index.specs.declared.Index.{Index}
-use Rattle.record.specs.declared.Call.{Call as Request}
-use Rattle.record.specs.declared.Call.the-variants as request
-use Rattle.record.specs.declared.Told.{Told}
-use Rattle.record.specs.declared.Told.the-variants as told
-use Rattle.record.specs.declared.Reading.{Reading}
-use Rattle.record.specs.Record.{readOf, extentOf}
+use Rattle.codec.specs.declared.Call.{Call as Request}
+use Rattle.codec.specs.declared.Call.the-variants as request
+use Rattle.codec.specs.declared.Told.{Told}
+use Rattle.codec.specs.declared.Told.the-variants as told
+use Rattle.codec.specs.declared.Reading.{Reading}
+use Rattle.codec.specs.Record.{readOf, extentOf}
 use Rattle.book.specs.declared.Answer.{Answer}
 use Rattle.book.specs.declared.Answer.the-variants as answer
 use Rattle.book.specs.Calls.{refuse, onStore}

@@ -3,9 +3,9 @@
 use answer::Refusal;
 use book::Answer;
 use book::sound;
+use codec::Call;
+use codec::Told;
 use index::Index;
-use record::Call;
-use record::Told;
 use road::Source;
 ghost use mathlib.Core.Path.{_≡_};
 ghost use mathlib.Core.Bool.{false};
@@ -72,8 +72,8 @@ pub fn serve(steps: &[u32; 1000], store: &mut [u8], job: &[u8]) -> Deed
     requires { ⌜ (now steps ≡ table) × (damaged (now store) ≡ false) ⌝ }
     ensures { λ r. ⌜ ((r, now (store .exit)) ≡ doneTo (now (job .entry)) (now (store .entry))) × (damaged (now (store .exit)) ≡ false) ⌝ }
 {
-    let extent = record::extent(job);
-    let reading = record::read_with(steps, job);
+    let extent = codec::extent(job);
+    let reading = codec::read(steps, job);
     let told = reading.told;
     let source = reading.source;
     match told {
@@ -97,7 +97,7 @@ pub fn apply(store: &mut [u8], job: &[u8]) -> Deed
 {
     let steps = level::table::steps();
     if store::damaged(&steps, store) {
-        let extent = record::extent(job);
+        let extent = codec::extent(job);
         return Deed {
             outcome: Outcome::Refused(Refusal::Damaged),
             extent,

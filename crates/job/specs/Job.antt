@@ -4,7 +4,7 @@ use mathlib.Core.Path.{_≡_}
 use mathlib.Core.Bool.{Bool, true, false}
 use mathlib.Core.List.{List, [], _++_}
 use lib.ListN.{length, take, drop}
-use Rattle.record.specs.Record.{extentOf}
+use Rattle.codec.specs.Record.{extentOf}
 use Rattle.clerk.specs.declared.Deed.{Deed}
 use Rattle.clerk.specs.Clerk.{doneTo}
 use Rattle.listing.specs.Listing.{lineOf}

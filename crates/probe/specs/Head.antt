@@ -5,8 +5,8 @@ use mathlib.Core.List.{List, [], _∷_}
 use Rattle.answer.specs.Table.{numberOf, placeOf}
 use Rattle.index.specs.declared.Index.{Index}
 use Rattle.index.specs.declared.Index.the-variants.{Quiet, Tenths}
-use Rattle.record.specs.declared.Written.{Written}
-use Rattle.record.specs.declared.Written.the-variants as written
+use Rattle.codec.specs.declared.Written.{Written}
+use Rattle.codec.specs.declared.Written.the-variants as written
 use Rattle.clerk.specs.declared.Outcome.{Outcome}
 use Rattle.clerk.specs.declared.Outcome.the-variants.{Done, Levels, Refused}
 

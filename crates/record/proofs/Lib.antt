@@ -1,7 +1,2 @@
--- Laws of records: the rows of the table, the cases of reader and writer, each kind, the round trips; and the figures.
-pub mod Rows
-pub mod Laws
-pub mod Calls
-pub mod Trips
-pub mod Figures
+-- The calls of records settle their outcomes.
 pub mod Settled

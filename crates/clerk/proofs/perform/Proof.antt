@@ -3,7 +3,7 @@ use mathlib.Core.Path.{_≡_, sym, ap, _∙_}
 use mathlib.Core.List.{List}
 use Prim.Native.Nat.{ℕ}
 use borrow.Author.Needs.{needs}
-use Rattle.record.specs.declared.Call.{Call as Request}
+use Rattle.codec.specs.declared.Call.{Call as Request}
 use Rattle.book.specs.declared.Answer.{Answer}
 use Rattle.book.specs.Calls.{placeSource, withdrawSource, placeReceiver, withdrawReceiver, askReceiver}
 use Rattle.book.specs.History.{perform}

@@ -3,10 +3,10 @@ use mathlib.Core.Path.{_≡_, refl, sym, ap, ap₂, _∙_}
 use mathlib.Core.List.{List}
 use Prim.Native.Nat.{ℕ}
 use borrow.Author.Needs.{needs}
-use Rattle.record.specs.declared.Reading.{Reading}
+use Rattle.codec.specs.declared.Reading.{Reading}
 use Rattle.book.specs.declared.Answer.{Answer}
-use Rattle.record.specs.declared.Told.the-variants as told
-use Rattle.record.specs.Record.{readOf}
+use Rattle.codec.specs.declared.Told.the-variants as told
+use Rattle.codec.specs.Record.{readOf}
 use Rattle.book.specs.declared.Answer.the-variants as answer
 use Rattle.clerk.specs.Clerk.{outcomeOf, deed}
 use Rattle.clerk.proofs.Laws.{called, called-sound, unread}
@@ -16,8 +16,8 @@ use Rattle.clerk.proofs.serve.Tie as tie
 extent-requires : tie.Need-extent-requires
 extent-requires c κs = search needs
 
-read-with-requires : tie.Need-read-with-requires
-read-with-requires c κs = search needs
+read-requires : tie.Need-read-requires
+read-requires c κs = search needs
 
 enum-known-told : tie.Need-enum-known-told
 enum-known-told c = search needs
@@ -37,7 +37,7 @@ of-slot-requires c κs = search needs
 returns : tie.Need-returns
 returns c =
     let start = c .before .before .before .before .before .before .before .before in
-    let rd = c .before .before .before .before .read-with in
+    let rd = c .before .before .before .before .read in
     let w = c .before .told .given in
     let job = start .args .job .now in
     let store = start .args .store .now in
@@ -52,7 +52,7 @@ same-length c = search needs
 returns-2 : tie.Need-returns-2
 returns-2 c =
     let start = c .before .before .before .before .before .before .before .before .before .before .before .before .before .before in
-    let rd = c .before .before .before .before .before .before .before .before .before .before .read-with in
+    let rd = c .before .before .before .before .before .before .before .before .before .before .read in
     let w = c .before .before .before .before .before .before .before .told2 .given in
     let p = c .before .before .before .before .perform in
     let job = start .args .job .now in
@@ -67,4 +67,4 @@ returns-2 c =
     )
 
 pub serve-spec : {M : Type 1} → statement M
-serve-spec = tie.close (tie.spec extent-requires read-with-requires enum-known-told enum-known-told-2 perform-requires slot-requires of-slot-requires returns same-length returns-2)
+serve-spec = tie.close (tie.spec extent-requires read-requires enum-known-told enum-known-told-2 perform-requires slot-requires of-slot-requires returns same-length returns-2)

@@ -6,10 +6,10 @@ use native.Mathlib.Omega.{arith}
 use denote.Ref.{now}
 use lib.ListN.{length, take}
 use lib.Seq.{length-take-le}
-use Rattle.record.specs.declared.Told.{Told}
-use Rattle.record.specs.declared.Reading.{Reading}
-use Rattle.record.specs.Record.{partBy, partOf}
-use Rattle.record.proofs.Laws.{extent-le}
+use Rattle.codec.specs.declared.Told.{Told}
+use Rattle.codec.specs.declared.Reading.{Reading}
+use Rattle.codec.specs.Record.{partBy, partOf}
+use Rattle.codec.proofs.Laws.{extent-le}
 use borrow.Author.Needs.{needs}
 use Rattle.record.proofs.part.Statement.{statement}
 use Rattle.record.proofs.part.Tie as tie
