@@ -19,7 +19,7 @@ use Rattle.road.proofs.Pairs.{Sound, heard-is}
 use Rattle.store.specs.Account.{top, soundB, coversB}
 use Rattle.store.specs.Store.{sourceSlots, receiverSlots}
 use Rattle.ledger.specs.Lists.{present, weigh}
-use Rattle.book.specs.Calls.{more, less, isHeard}
+use Rattle.undamaged.specs.Calls.{more, less, isHeard}
 use Rattle.book.specs.History.{All, total, Hears}
 use Rattle.book.proofs.Slots.{never, and-both, all-map, perm-sum, sum-most}
 

@@ -16,10 +16,10 @@ use Rattle.road.specs.Judge.{sourceVerdict, receiverVerdict, slotVerdict, lastS
 use Rattle.store.specs.declared.Held.{Held}
 use Rattle.store.specs.Account.{soundB, coversB}
 use Rattle.store.specs.Store.{Book, book, sourceSlots, receiverSlots, SourceStands, HeldStands, SoundBook}
-use Rattle.book.specs.declared.Answer.{Answer}
+use Rattle.undamaged.specs.declared.Answer.{Answer}
 use Rattle.ledger.specs.Lists.{omap, present, every, firstBar, weigh}
-use Rattle.book.specs.Calls.{used, Step, tell, allow, fromUsed, more, less, hasRoom, canReturn}
-use Rattle.book.specs.Calls.{placeSource, withdrawSource, placeReceiver, withdrawReceiver, askReceiver}
+use Rattle.undamaged.specs.Calls.{used, Step, tell, allow, fromUsed, more, less, hasRoom, canReturn}
+use Rattle.undamaged.specs.Calls.{placeSource, withdrawSource, placeReceiver, withdrawReceiver, askReceiver}
 use Rattle.book.specs.History.{Call, PlaceSource, WithdrawSource, PlaceReceiver, WithdrawReceiver, Ask, RealCall, All, accepted, sourceMove}
 use Rattle.book.specs.History.{receiverMove, row, levelsOf, Hears, Rule}
 use Rattle.book.proofs.Slots.{never, and-both, all-map, all-both, all-set, all-at, every-all, every-omap, omap-set, omap-twice, omap-unused}

@@ -24,10 +24,10 @@ use Rattle.road.specs.Judge.{sourceFields, sourceLeast, sourceMost, receiverFie
 use Rattle.road.specs.Judge.{unlessOutside, sourceVerdict, receiverVerdict, slotVerdict}
 use Rattle.road.proofs.Judged.{outside, inside}
 use Rattle.store.specs.Store.{Book}
-use Rattle.book.specs.declared.Answer.{Answer}
+use Rattle.undamaged.specs.declared.Answer.{Answer}
 use Rattle.ledger.specs.Lists.{omap, present, orBar, firstBar}
-use Rattle.book.specs.Calls.{used, Step, refuse, tell, change, allow, intoFree, fromUsed, unlessBarred}
-use Rattle.book.specs.Calls.{unlessLate, isHeard}
+use Rattle.undamaged.specs.Calls.{used, Step, refuse, tell, change, allow, intoFree, fromUsed, unlessBarred}
+use Rattle.undamaged.specs.Calls.{unlessLate, isHeard}
 use Rattle.book.specs.History.{All}
 use Rattle.book.proofs.Slots.{never}
 

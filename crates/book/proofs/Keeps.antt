@@ -20,15 +20,15 @@ use Rattle.store.specs.declared.Held.{Held}
 use Rattle.store.specs.Slots.{Each}
 use Rattle.store.specs.Store.{Book, book, damaged, bookOf, storeLength, clearedBytes, SourceStands, HeldStands, SoundBook}
 use Rattle.store.proofs.Laws.{cleared, sound-book, book-bytes, sound-source, sound-held}
-use Rattle.book.specs.declared.Answer.{Answer}
-use Rattle.book.specs.declared.Answer.the-variants.{Done, Refused}
+use Rattle.undamaged.specs.declared.Answer.{Answer}
+use Rattle.undamaged.specs.declared.Answer.the-variants.{Done, Refused}
 use Rattle.ledger.specs.Lists.{omap, present, every, firstBar, weigh}
-use Rattle.book.specs.Calls.{Step, refuse, tell, change, allow, intoFree, fromUsed, unlessBarred, unlessLate}
-use Rattle.book.specs.Calls.{more, less, hasRoom, canReturn, placeSource, withdrawSource, placeReceiver, withdrawReceiver, askReceiver, told, onStore, clearStore}
+use Rattle.undamaged.specs.Calls.{Step, refuse, tell, change, allow, intoFree, fromUsed, unlessBarred, unlessLate}
+use Rattle.undamaged.specs.Calls.{more, less, hasRoom, canReturn, placeSource, withdrawSource, placeReceiver, withdrawReceiver, askReceiver, told, onStore, clearStore}
 use Rattle.book.specs.History.{Call, Clear, PlaceSource, WithdrawSource, PlaceReceiver, WithdrawReceiver, Ask, perform, RealCall}
-use Rattle.book.proofs.Entries.{slot-allowed}
+use Rattle.undamaged.proofs.Entries.{slot-allowed}
 use Rattle.ledger.proofs.Rounds.{and-both}
-use Rattle.book.proofs.Rounded.{less-sound}
+use Rattle.undamaged.proofs.Rounded.{less-sound}
 use Rattle.book.proofs.Slots.{never}
 use Rattle.book.proofs.Accounts.{lanes-are, weigh-sound}
 use Rattle.book.proofs.Gates.{bars-pass}

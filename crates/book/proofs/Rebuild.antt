@@ -10,7 +10,7 @@ use Rattle.road.specs.declared.Receiver.{Receiver}
 use Rattle.index.specs.Index.{ldenOf, lnightOf}
 use Rattle.store.specs.declared.Held.{Held}
 use Rattle.store.specs.Store.{sourceSlots, receiverSlots, SourceStands}
-use Rattle.book.specs.declared.Answer.the-variants.{Levels}
+use Rattle.undamaged.specs.declared.Answer.the-variants.{Levels}
 use Rattle.ledger.specs.Lists.{present, weigh}
 use Rattle.book.specs.History.{Call, answerTo, Real, All, accepted, kept, sourceMove, receiverMove, lastAt, row, standingSource}
 use Rattle.book.specs.History.{standingReceiver, standingSources, standingReceivers, levelsOf, SumsOf, Hears, Put, Placing, source, receiver}

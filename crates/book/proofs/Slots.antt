@@ -14,7 +14,7 @@ use lib.ListN.{length, getD, set, replicate, length-set, length-replicate, getD-
 use lib.Seq.{getD-set-same, getD-set-other, ext-getD}
 use borrow.Author.Tests.{eqb-true, eqb-false, eq-eqb, ne-eqb}
 use Rattle.ledger.specs.Lists.{omap, present, every, sumOf}
-use Rattle.book.specs.Calls.{used}
+use Rattle.undamaged.specs.Calls.{used}
 use Rattle.book.specs.History.{All, Move, enter, leave, allLeave, still, lastAt, row, Put, entriesOf, Apart, inPlace}
 
 -- where `cc` finds that two constructors are equal

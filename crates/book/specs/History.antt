@@ -17,11 +17,11 @@ use Rattle.road.specs.Judge.{sourceVerdict, receiverVerdict}
 use Rattle.index.specs.Index.{ldenOf, lnightOf}
 use Rattle.store.specs.declared.Held.{Held}
 use Rattle.store.specs.Store.{Book, damaged, bookOf, clearedBytes, sourceSlots, receiverSlots}
-use Rattle.book.specs.declared.Answer.{Answer}
-use Rattle.book.specs.declared.Answer.the-variants.{Done, Levels, Refused}
+use Rattle.undamaged.specs.declared.Answer.{Answer}
+use Rattle.undamaged.specs.declared.Answer.the-variants.{Done, Levels, Refused}
 use Rattle.ledger.specs.Lists.{omap, present, sumOf}
-use Rattle.book.specs.Calls.{numberIn, used, isHeard, placeSource, withdrawSource, placeReceiver, withdrawReceiver, askReceiver}
-use Rattle.book.specs.Calls.{onStore, clearStore}
+use Rattle.undamaged.specs.Calls.{numberIn, used, isHeard, placeSource, withdrawSource, placeReceiver, withdrawReceiver, askReceiver}
+use Rattle.undamaged.specs.Calls.{onStore, clearStore}
 
 -- ---- a history: any calls, the latest first, refused ones among them
 

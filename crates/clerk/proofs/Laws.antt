@@ -17,11 +17,11 @@ use Rattle.codec.specs.declared.Told.the-variants as told
 use Rattle.codec.specs.Record.{lengthOf, readOf, extentOf}
 use Rattle.codec.proofs.Trips.{three-periods}
 use Rattle.store.specs.Store.{Book, damaged, bookOf}
-use Rattle.book.specs.declared.Answer.{Answer}
-use Rattle.book.specs.declared.Answer.the-variants as answer
-use Rattle.book.specs.Calls.{Step, refuse, placeSource, withdrawSource, placeReceiver, withdrawReceiver, askReceiver, onStore}
+use Rattle.undamaged.specs.declared.Answer.{Answer}
+use Rattle.undamaged.specs.declared.Answer.the-variants as answer
+use Rattle.undamaged.specs.Calls.{Step, refuse, placeSource, withdrawSource, placeReceiver, withdrawReceiver, askReceiver, onStore}
 use Rattle.book.specs.History.{RealCall, perform}
-use Rattle.book.proofs.Entries.{on-damaged, on-sound}
+use Rattle.undamaged.proofs.Entries.{on-damaged, on-sound}
 use Rattle.book.proofs.Theorems.{of-this-book}
 use Rattle.clerk.specs.declared.Outcome.{Outcome}
 use Rattle.clerk.specs.declared.Deed.{Deed}

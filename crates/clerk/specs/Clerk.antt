@@ -11,9 +11,9 @@ use Rattle.codec.specs.declared.Told.{Told}
 use Rattle.codec.specs.declared.Told.the-variants as told
 use Rattle.codec.specs.declared.Reading.{Reading}
 use Rattle.codec.specs.Record.{readOf, extentOf}
-use Rattle.book.specs.declared.Answer.{Answer}
-use Rattle.book.specs.declared.Answer.the-variants as answer
-use Rattle.book.specs.Calls.{refuse, onStore}
+use Rattle.undamaged.specs.declared.Answer.{Answer}
+use Rattle.undamaged.specs.declared.Answer.the-variants as answer
+use Rattle.undamaged.specs.Calls.{refuse, onStore}
 use Rattle.book.specs.History.{Call, PlaceSource, WithdrawSource, PlaceReceiver, WithdrawReceiver, Ask, perform}
 use Rattle.clerk.specs.declared.Outcome.{Outcome}
 use Rattle.clerk.specs.declared.Outcome.the-variants.{Done, Levels, Refused}

@@ -2,7 +2,6 @@
 // `apply` takes any bytes and any store; `serve` is for a store that is known to be undamaged, and keeps it so.
 use answer::Refusal;
 use book::Answer;
-use book::sound;
 use codec::Call;
 use codec::Told;
 use index::Index;
@@ -59,11 +58,11 @@ fn perform(steps: &[u32; 1000], store: &mut [u8], call: Call, source: Source) ->
     ensures { λ r. ⌜ (r, now (store .exit)) ≡ perform (callOf call source) (now (store .entry)) ⌝ }
 {
     match call {
-        Call::PlaceReceiver(slot, r) => sound::place_receiver(steps, store, slot, r),
-        Call::WithdrawReceiver(slot) => sound::withdraw_receiver(store, slot),
-        Call::PlaceSource(slot) => sound::place_source(steps, store, slot, source),
-        Call::WithdrawSource(slot) => sound::withdraw_source(steps, store, slot),
-        Call::Ask(slot) => sound::ask(steps, store, slot),
+        Call::PlaceReceiver(slot, r) => undamaged::place_receiver(steps, store, slot, r),
+        Call::WithdrawReceiver(slot) => undamaged::withdraw_receiver(store, slot),
+        Call::PlaceSource(slot) => undamaged::place_source(steps, store, slot, source),
+        Call::WithdrawSource(slot) => undamaged::withdraw_source(steps, store, slot),
+        Call::Ask(slot) => undamaged::ask(steps, store, slot),
     }
 }
 

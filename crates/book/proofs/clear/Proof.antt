@@ -6,9 +6,9 @@ use mathlib.Core.List.{List, [], _∷_, map}
 use lib.ListN.{length}
 use borrow.Author.Tests.{eq-eqb, ne-eqb}
 use Rattle.store.specs.Store.{storeLength}
-use Rattle.book.specs.declared.Answer.{Answer}
-use Rattle.book.specs.declared.Answer.the-variants.{Done}
-use Rattle.book.specs.Calls.{clearStore}
+use Rattle.undamaged.specs.declared.Answer.{Answer}
+use Rattle.undamaged.specs.declared.Answer.the-variants.{Done}
+use Rattle.undamaged.specs.Calls.{clearStore}
 use Rattle.book.proofs.clear.Statement.{statement}
 use Rattle.book.proofs.clear.Tie as tie
 

@@ -1,8 +1,8 @@
 -- `withdraw_receiver` looks for damage first, then answers as the inner call does. Assumes nothing.
 use mathlib.Core.Path.{_≡_, refl, sym, ap, ap₂, _∙_}
 use borrow.Author.Needs.{needs}
-use Rattle.book.specs.Calls.{withdrawReceiver}
-use Rattle.book.proofs.Entries.{on-damaged, on-sound}
+use Rattle.undamaged.specs.Calls.{withdrawReceiver}
+use Rattle.undamaged.proofs.Entries.{on-damaged, on-sound}
 use Rattle.book.proofs.withdraw_receiver.Statement.{statement}
 use Rattle.book.proofs.withdraw_receiver.Tie as tie
 

@@ -3,7 +3,7 @@ use mathlib.Core.Path.{_≡_, sym, ap, ap₂, _∙_}
 use Prim.Native.Nat.{ℕ}
 use Rattle.answer.specs.declared.Refusal.the-variants.{Damaged}
 use Rattle.codec.specs.declared.Told.the-variants as told
-use Rattle.book.specs.declared.Answer.the-variants as answer
+use Rattle.undamaged.specs.declared.Answer.the-variants as answer
 use Rattle.clerk.specs.Clerk.{deed}
 use borrow.Author.Needs.{needs}
 use Rattle.clerk.proofs.Laws.{on-damage}

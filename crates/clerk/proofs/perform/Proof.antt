@@ -4,10 +4,10 @@ use mathlib.Core.List.{List}
 use Prim.Native.Nat.{ℕ}
 use borrow.Author.Needs.{needs}
 use Rattle.codec.specs.declared.Call.{Call as Request}
-use Rattle.book.specs.declared.Answer.{Answer}
-use Rattle.book.specs.Calls.{placeSource, withdrawSource, placeReceiver, withdrawReceiver, askReceiver}
+use Rattle.undamaged.specs.declared.Answer.{Answer}
+use Rattle.undamaged.specs.Calls.{placeSource, withdrawSource, placeReceiver, withdrawReceiver, askReceiver}
 use Rattle.book.specs.History.{perform}
-use Rattle.book.proofs.Entries.{on-sound}
+use Rattle.undamaged.proofs.Entries.{on-sound}
 use Rattle.clerk.specs.Clerk.{callOf}
 use Rattle.clerk.proofs.perform.Statement.{statement}
 use Rattle.clerk.proofs.perform.Tie as tie

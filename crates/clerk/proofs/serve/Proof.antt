@@ -4,10 +4,10 @@ use mathlib.Core.List.{List}
 use Prim.Native.Nat.{ℕ}
 use borrow.Author.Needs.{needs}
 use Rattle.codec.specs.declared.Reading.{Reading}
-use Rattle.book.specs.declared.Answer.{Answer}
+use Rattle.undamaged.specs.declared.Answer.{Answer}
 use Rattle.codec.specs.declared.Told.the-variants as told
 use Rattle.codec.specs.Record.{readOf}
-use Rattle.book.specs.declared.Answer.the-variants as answer
+use Rattle.undamaged.specs.declared.Answer.the-variants as answer
 use Rattle.clerk.specs.Clerk.{outcomeOf, deed}
 use Rattle.clerk.proofs.Laws.{called, called-sound, unread}
 use Rattle.clerk.proofs.serve.Statement.{statement}
