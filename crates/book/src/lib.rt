@@ -1,9 +1,9 @@
 // The book: sources and receivers in a store that the caller lends, and the calls on it.
 // What each call answers and leaves, for every store, is a definition of undamaged/specs/Calls.antt; no call here requires anything.
-pub use undamaged::Answer;
 use answer::Refusal;
 use road::Receiver;
 use road::Source;
+pub use undamaged::Answer;
 ghost use mathlib.Core.Path.{_≡_};
 ghost use Rattle.undamaged.specs.Calls.{onStore, clearStore, placeSource, withdrawSource, placeReceiver, withdrawReceiver, askReceiver};
 

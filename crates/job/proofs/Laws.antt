@@ -13,10 +13,10 @@ use lib.Seq.{take-all, take-at, take-suc, take-suc-set, drop-set-lt, drop-drop, 
 use Rattle.layout.specs.Over.{over}
 use Rattle.listing.specs.Listing.{put, lineOf}
 use Rattle.store.specs.Store.{damaged}
-use Rattle.clerk.specs.declared.Outcome.{Outcome}
-use Rattle.clerk.specs.declared.Deed.{Deed}
-use Rattle.clerk.specs.Clerk.{doneTo}
-use Rattle.clerk.proofs.Laws.{goes-by, goes-within}
+use Rattle.service.specs.declared.Outcome.{Outcome}
+use Rattle.service.specs.declared.Deed.{Deed}
+use Rattle.service.specs.Service.{doneTo}
+use Rattle.service.proofs.Laws.{goes-by, goes-within}
 use Rattle.job.specs.declared.piece.Progress.{Progress}
 use Rattle.job.specs.declared.piece.Entry.{Entry}
 use Rattle.job.specs.declared.pipe.Hand.{Hand}

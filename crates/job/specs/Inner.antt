@@ -7,8 +7,8 @@ use mathlib.Core.List.{List}
 use lib.ListN.{length, take, drop}
 use Rattle.layout.specs.Over.{over}
 use Rattle.store.specs.Store.{damaged}
-use Rattle.clerk.specs.declared.Deed.{Deed}
-use Rattle.clerk.specs.Clerk.{doneTo}
+use Rattle.service.specs.declared.Deed.{Deed}
+use Rattle.service.specs.Service.{doneTo}
 use Rattle.listing.specs.Listing.{lineOf}
 use Rattle.job.specs.declared.piece.Entry.{Entry}
 use Rattle.job.specs.declared.piece.Progress.{Progress}

@@ -5,8 +5,8 @@ use mathlib.Core.Bool.{Bool, true, false}
 use mathlib.Core.List.{List, [], _++_}
 use lib.ListN.{length, take, drop}
 use Rattle.codec.specs.Record.{extentOf}
-use Rattle.clerk.specs.declared.Deed.{Deed}
-use Rattle.clerk.specs.Clerk.{doneTo}
+use Rattle.service.specs.declared.Deed.{Deed}
+use Rattle.service.specs.Service.{doneTo}
 use Rattle.listing.specs.Listing.{lineOf}
 use Rattle.job.specs.declared.piece.Progress.{Progress}
 

@@ -1,13 +1,13 @@
 // A piece of a job: its records are done one after the other and their lines put one after the other.
 // A record is left for the next piece where it may not be whole yet, or where the output is full.
-use clerk::Outcome;
+use service::Outcome;
 ghost use mathlib.Core.Path.{_≡_};
 ghost use mathlib.Core.Bool.{false};
 ghost use Prim.Native.Nat.{_+_, _≤_, _<_};
 ghost use lib.ListN.{length, drop};
 ghost use Rattle.level.specs.Table.{table};
 ghost use Rattle.store.specs.Store.{damaged};
-ghost use Rattle.clerk.specs.Clerk.{doneTo};
+ghost use Rattle.service.specs.Service.{doneTo};
 ghost use Rattle.listing.specs.Listing.{lineOf};
 ghost use Rattle.job.specs.Job.{Listed};
 ghost use Rattle.job.specs.Inner.{Put, Entered, paused};
@@ -54,7 +54,7 @@ fn enter(
     requires { ⌜ (now steps ≡ table) × (damaged (now store) ≡ false) × (at ≤ length (now piece)) × (place + 64 ≤ length (now out)) ⌝ }
     ensures { λ r. ⌜ Entered (length (drop at (now (piece .entry)))) place n (doneTo (drop at (now (piece .entry))) (now (store .entry))) (now (out .entry)) r (now (store .exit)) (now (out .exit)) ⌝ }
 {
-    let deed = clerk::serve(steps, store, &piece[at..]);
+    let deed = service::serve(steps, store, &piece[at..]);
     let outcome = deed.outcome;
     let extent = deed.extent;
     let wrote = put_line(out, place, n, outcome);

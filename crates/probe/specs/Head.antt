@@ -7,8 +7,8 @@ use Rattle.index.specs.declared.Index.{Index}
 use Rattle.index.specs.declared.Index.the-variants.{Quiet, Tenths}
 use Rattle.codec.specs.declared.Written.{Written}
 use Rattle.codec.specs.declared.Written.the-variants as written
-use Rattle.clerk.specs.declared.Outcome.{Outcome}
-use Rattle.clerk.specs.declared.Outcome.the-variants.{Done, Levels, Refused}
+use Rattle.service.specs.declared.Outcome.{Outcome}
+use Rattle.service.specs.declared.Outcome.the-variants.{Done, Levels, Refused}
 
 abbrev pub brief : ℕ → ℕ
 brief n = min n 65535

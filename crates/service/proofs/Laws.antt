@@ -23,9 +23,9 @@ use Rattle.undamaged.specs.Calls.{Step, refuse, placeSource, withdrawSource, pl
 use Rattle.book.specs.History.{RealCall, perform}
 use Rattle.undamaged.proofs.Entries.{on-damaged, on-sound}
 use Rattle.book.proofs.Theorems.{of-this-book}
-use Rattle.clerk.specs.declared.Outcome.{Outcome}
-use Rattle.clerk.specs.declared.Deed.{Deed}
-use Rattle.clerk.specs.Clerk.{callOf, slotIn, outcomeOf, answerTold, deed, doneTo}
+use Rattle.service.specs.declared.Outcome.{Outcome}
+use Rattle.service.specs.declared.Deed.{Deed}
+use Rattle.service.specs.Service.{callOf, slotIn, outcomeOf, answerTold, deed, doneTo}
 
 -- the call of a reading is one that code can make
 real : (r : Request) (s : Source) → length (s .traffic) ≡ 3 → RealCall (callOf r s)

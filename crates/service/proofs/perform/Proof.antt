@@ -8,9 +8,9 @@ use Rattle.undamaged.specs.declared.Answer.{Answer}
 use Rattle.undamaged.specs.Calls.{placeSource, withdrawSource, placeReceiver, withdrawReceiver, askReceiver}
 use Rattle.book.specs.History.{perform}
 use Rattle.undamaged.proofs.Entries.{on-sound}
-use Rattle.clerk.specs.Clerk.{callOf}
-use Rattle.clerk.proofs.perform.Statement.{statement}
-use Rattle.clerk.proofs.perform.Tie as tie
+use Rattle.service.specs.Service.{callOf}
+use Rattle.service.proofs.perform.Statement.{statement}
+use Rattle.service.proofs.perform.Tie as tie
 
 enum-known-call : tie.Need-enum-known-call
 enum-known-call c = search needs

@@ -15,9 +15,9 @@ use Rattle.undamaged.specs.declared.Answer.{Answer}
 use Rattle.undamaged.specs.declared.Answer.the-variants as answer
 use Rattle.undamaged.specs.Calls.{refuse, onStore}
 use Rattle.book.specs.History.{Call, PlaceSource, WithdrawSource, PlaceReceiver, WithdrawReceiver, Ask, perform}
-use Rattle.clerk.specs.declared.Outcome.{Outcome}
-use Rattle.clerk.specs.declared.Outcome.the-variants.{Done, Levels, Refused}
-use Rattle.clerk.specs.declared.Deed.{Deed}
+use Rattle.service.specs.declared.Outcome.{Outcome}
+use Rattle.service.specs.declared.Outcome.the-variants.{Done, Levels, Refused}
+use Rattle.service.specs.declared.Deed.{Deed}
 
 -- the call of the book that a record asks for
 abbrev pub callOf : Request → Source → Call

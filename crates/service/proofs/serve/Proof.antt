@@ -8,10 +8,10 @@ use Rattle.undamaged.specs.declared.Answer.{Answer}
 use Rattle.codec.specs.declared.Told.the-variants as told
 use Rattle.codec.specs.Record.{readOf}
 use Rattle.undamaged.specs.declared.Answer.the-variants as answer
-use Rattle.clerk.specs.Clerk.{outcomeOf, deed}
-use Rattle.clerk.proofs.Laws.{called, called-sound, unread}
-use Rattle.clerk.proofs.serve.Statement.{statement}
-use Rattle.clerk.proofs.serve.Tie as tie
+use Rattle.service.specs.Service.{outcomeOf, deed}
+use Rattle.service.proofs.Laws.{called, called-sound, unread}
+use Rattle.service.proofs.serve.Statement.{statement}
+use Rattle.service.proofs.serve.Tie as tie
 
 extent-requires : tie.Need-extent-requires
 extent-requires c κs = search needs

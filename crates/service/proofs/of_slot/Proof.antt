@@ -1,9 +1,9 @@
 -- `of_slot` gives an answer of the book its slot, case by case. Assumes nothing.
 use mathlib.Core.Path.{_≡_, sym, ap}
 use borrow.Author.Needs.{needs}
-use Rattle.clerk.specs.Clerk.{outcomeOf}
-use Rattle.clerk.proofs.of_slot.Statement.{statement}
-use Rattle.clerk.proofs.of_slot.Tie as tie
+use Rattle.service.specs.Service.{outcomeOf}
+use Rattle.service.proofs.of_slot.Statement.{statement}
+use Rattle.service.proofs.of_slot.Tie as tie
 
 enum-told : tie.Need-enum-told
 enum-told c = search needs
