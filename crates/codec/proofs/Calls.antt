@@ -17,6 +17,7 @@ use Rattle.road.specs.declared.Source.{Source}
 use Rattle.road.specs.declared.Verdict.{Verdict}
 use Rattle.road.specs.declared.Verdict.the-variants.{Allowed, Refused}
 use Rattle.road.proofs.Fit.{passed}
+use Rattle.road.proofs.Judged.{slot-allowed}
 use Rattle.road.proofs.Periods.{periods-again}
 use Rattle.road.specs.Judge.{sourceFields, sourceLeast, sourceMost, receiverFields, receiverLeast, receiverMost, unlessOutside, slowSurface, quietTruck, sourceVerdict, receiverVerdict, slotVerdict, lastSource, lastReceiver}
 use Rattle.codec.specs.declared.Call.{Call}
@@ -27,13 +28,6 @@ use Rattle.codec.proofs.Laws.{first-filled}
 use Rattle.codec.specs.Kinds.{at, kindAt, layoutOf, leftoverOf, verdictOf, numberOf, fieldsOf, sourceWith}
 
 -- ---- an allowed call has fields that fit
-
-pub slot-allowed : (most slot : ℕ) (v : Verdict) → slotVerdict most slot v ≡ Allowed → (slot ≤ most) × (v ≡ Allowed)
-slot-allowed most slot v e = go (leb slot most) refl e
-  where
-    go : (b : Bool) → leb slot most ≡ b → cond b v (Refused (Field 1)) ≡ Allowed → (slot ≤ most) × (v ≡ Allowed)
-    go true h f = (leb-true slot most h, f)
-    go false h f = let z : _≡_ {A = ℕ} 0 1 = cc in absurd (omega arith)
 
 all-inside : (least most fields : List ℕ) (v : Verdict) → unlessOutside least most fields v ≡ Allowed → Inside least most fields
 all-inside least most fields v e =

@@ -2,12 +2,14 @@
 -- The refusals stand in the order of their numbers: the lowest that applies is given.
 use Prim.Native.Nat.{ℕ}
 use mathlib.Core.Bool.{Bool, cond, _||_}
+use mathlib.Core.Option.{Option, none, some}
 use mathlib.Core.List.{List, [], _++_}
 use lib.ListN.{length, take, drop}
 use lib.Dec.{leb, ltb, eqb}
 use Rattle.layout.specs.Layout.{size, bits, fields, packed}
 use Rattle.answer.specs.declared.Refusal.{Refusal}
 use Rattle.answer.specs.declared.Refusal.the-variants.{CutShort, UnknownKind, Leftover}
+use Rattle.answer.specs.Table.{numberBy, placeBy}
 use Rattle.road.specs.declared.Source.{Source}
 use Rattle.road.specs.declared.Verdict.{Verdict}
 use Rattle.road.specs.declared.Verdict.the-variants as verdict
@@ -104,3 +106,25 @@ writtenBy verdict.Allowed bytes out =
 -- the answer, and the output as it then is
 unfoldable pub writeOf : Call → Source → List ℕ → Written × List ℕ
 writeOf call source out = writtenBy (verdictOf call source) (recordOf call source) out
+
+-- ---- number and place of what a reading tells, and of what comes of writing
+
+abbrev pub refusalTold : Told → Option Refusal
+refusalTold (told.Call call) = none
+refusalTold (told.Refused why) = some why
+
+abbrev pub numberTold : Told → ℕ
+numberTold t = numberBy (refusalTold t)
+
+abbrev pub placeTold : Told → ℕ
+placeTold t = placeBy (refusalTold t)
+
+abbrev pub refusalWritten : Written → Option Refusal
+refusalWritten written.Done = none
+refusalWritten (written.Refused why) = some why
+
+abbrev pub numberWritten : Written → ℕ
+numberWritten w = numberBy (refusalWritten w)
+
+abbrev pub placeWritten : Written → ℕ
+placeWritten w = placeBy (refusalWritten w)

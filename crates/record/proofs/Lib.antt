@@ -1,2 +1,4 @@
--- The calls of records settle their outcomes.
+-- What is promised of records, proved; and that their calls settle their outcomes.
+pub mod Trips
+pub mod Numbers
 pub mod Settled
