@@ -5,6 +5,7 @@ pub mod Gates
 pub mod Filled
 pub mod Laws
 pub mod Keeps
+pub mod Numbers
 pub mod History
 pub mod Rebuild
 pub mod Theorems

@@ -7,7 +7,7 @@ use mathlib.Core.List.{List, map}
 use lib.ListN.{length, getD, set}
 use lib.Dec.{eqb}
 use Rattle.answer.specs.declared.Refusal.{Refusal}
-use Rattle.answer.specs.Table.{numberOf, placeOf}
+use Rattle.answer.specs.Table.{numberBy, placeBy}
 use Rattle.answer.specs.declared.Refusal.the-variants.{Damaged, Taken, Vacant}
 use Rattle.road.specs.declared.Source.{Source}
 use Rattle.road.specs.declared.Receiver.{Receiver}
@@ -35,16 +35,17 @@ module _ {A : Type 0} where
 
 -- ---- answers
 
--- document 01's number and place of an answer: done and levels are 0 at 0
+-- the refusal in an answer, if it is one; number and place by it
+abbrev pub refusalIn : Answer → Option Refusal
+refusalIn Done = none
+refusalIn (Levels den night) = none
+refusalIn (Refused why) = some why
+
 abbrev pub numberIn : Answer → ℕ
-numberIn Done = 0
-numberIn (Levels den night) = 0
-numberIn (Refused why) = numberOf why
+numberIn a = numberBy (refusalIn a)
 
 abbrev pub placeIn : Answer → ℕ
-placeIn Done = 0
-placeIn (Levels den night) = 0
-placeIn (Refused why) = placeOf why
+placeIn a = placeBy (refusalIn a)
 
 -- ---- what a call comes to: refused, told without a change, or another book
 

@@ -1,5 +1,6 @@
 // The calls of the book on a store that is known to be undamaged, with the level table lent: no look for damage.
-// What each answers and leaves is a definition of specs/Calls.antt. Whoever watches a store from its clearing on can use these.
+// What each answers and leaves is a definition of specs/Calls.antt, and the store stays undamaged: so whoever watches a store from
+// its clearing on can use these.
 use answer::Refusal;
 use index::Index;
 use ledger::gather;
@@ -56,7 +57,7 @@ fn enter_source(steps: &[u32; 1000], store: &mut [u8], i: usize, s: Source) -> A
 // Places a source.
 pub fn place_source(steps: &[u32; 1000], store: &mut [u8], slot: u16, s: Source) -> Answer
     requires { ⌜ (now steps ≡ table) × (damaged (now store) ≡ false) ⌝ }
-    ensures { λ r. ⌜ (r, now (store .exit)) ≡ told (now (store .entry)) (placeSource slot s (bookOf (now (store .entry)))) ⌝ }
+    ensures { λ r. ⌜ ((r, now (store .exit)) ≡ told (now (store .entry)) (placeSource slot s (bookOf (now (store .entry))))) × (damaged (now (store .exit)) ≡ false) ⌝ }
 {
     let fields = road::judge::judge_source(steps, s);
     match road::judge::judge_slot(511, slot, fields) {
@@ -89,7 +90,7 @@ fn leave_source(steps: &[u32; 1000], store: &mut [u8], i: usize) -> Answer
 // Withdraws a source.
 pub fn withdraw_source(steps: &[u32; 1000], store: &mut [u8], slot: u16) -> Answer
     requires { ⌜ (now steps ≡ table) × (damaged (now store) ≡ false) ⌝ }
-    ensures { λ r. ⌜ (r, now (store .exit)) ≡ told (now (store .entry)) (withdrawSource slot (bookOf (now (store .entry)))) ⌝ }
+    ensures { λ r. ⌜ ((r, now (store .exit)) ≡ told (now (store .entry)) (withdrawSource slot (bookOf (now (store .entry))))) × (damaged (now (store .exit)) ≡ false) ⌝ }
 {
     match road::judge::judge_slot(511, slot, Verdict::Allowed) {
         Verdict::Refused(why) => Answer::Refused(why),
@@ -122,7 +123,7 @@ fn enter_receiver(steps: &[u32; 1000], store: &mut [u8], j: usize, r: Receiver) 
 // Places a receiver.
 pub fn place_receiver(steps: &[u32; 1000], store: &mut [u8], slot: u16, r: Receiver) -> Answer
     requires { ⌜ (now steps ≡ table) × (damaged (now store) ≡ false) ⌝ }
-    ensures { λ a. ⌜ (a, now (store .exit)) ≡ told (now (store .entry)) (placeReceiver slot r (bookOf (now (store .entry)))) ⌝ }
+    ensures { λ a. ⌜ ((a, now (store .exit)) ≡ told (now (store .entry)) (placeReceiver slot r (bookOf (now (store .entry))))) × (damaged (now (store .exit)) ≡ false) ⌝ }
 {
     let fields = road::judge::judge_receiver(r);
     match road::judge::judge_slot(63, slot, fields) {
@@ -147,7 +148,7 @@ fn leave_receiver(store: &mut [u8], j: usize) -> Answer
 // Withdraws a receiver.
 pub fn withdraw_receiver(store: &mut [u8], slot: u16) -> Answer
     requires { ⌜ damaged (now store) ≡ false ⌝ }
-    ensures { λ r. ⌜ (r, now (store .exit)) ≡ told (now (store .entry)) (withdrawReceiver slot (bookOf (now (store .entry)))) ⌝ }
+    ensures { λ r. ⌜ ((r, now (store .exit)) ≡ told (now (store .entry)) (withdrawReceiver slot (bookOf (now (store .entry))))) × (damaged (now (store .exit)) ≡ false) ⌝ }
 {
     match road::judge::judge_slot(63, slot, Verdict::Allowed) {
         Verdict::Refused(why) => Answer::Refused(why),

@@ -30,7 +30,7 @@ returns-2 : tie.Need-returns-2
 returns-2 c =
     let d = c .before .before .before .before .before .before in
     let start = d .before .before .before .before .before in
-    c .before .before .place-receiver .ensures
+    c .before .before .place-receiver .ensures .0
     ∙ on-sound (placeReceiver (start .args .slot) (start .args .r)) (start .args .store .now) (sym (d .damaged .ensures) ∙ c .before .before .before .before .before .if1 .left)
 
 pub place-receiver-spec : {M : Type 1} → statement M

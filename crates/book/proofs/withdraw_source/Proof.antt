@@ -30,7 +30,7 @@ returns-2 : tie.Need-returns-2
 returns-2 c =
     let d = c .before .before .before .before .before .before in
     let start = d .before .before .before .before .before in
-    c .before .before .withdraw-source .ensures
+    c .before .before .withdraw-source .ensures .0
     ∙ on-sound (withdrawSource (start .args .slot)) (start .args .store .now) (sym (d .damaged .ensures) ∙ c .before .before .before .before .before .if1 .left)
 
 pub withdraw-source-spec : {M : Type 1} → statement M

@@ -9,7 +9,7 @@ use Rattle.road.specs.declared.Verdict.the-variants.{Allowed}
 use Rattle.road.specs.Judge.{slotVerdict}
 use Rattle.store.specs.Store.{bookOf}
 use Rattle.undamaged.specs.Calls.{told, allow, heardAt, askReceiver}
-use Rattle.undamaged.proofs.Entries.{slot-allowed}
+use Rattle.road.proofs.Judged.{slot-allowed}
 use Rattle.undamaged.proofs.ask.Statement.{statement}
 use Rattle.undamaged.proofs.ask.Tie as tie
 

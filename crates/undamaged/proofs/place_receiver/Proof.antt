@@ -7,7 +7,8 @@ use Rattle.road.specs.declared.Verdict.{Verdict}
 use Rattle.road.specs.Judge.{slotVerdict}
 use Rattle.store.specs.Store.{bookOf}
 use Rattle.undamaged.specs.Calls.{told, allow, receiverIn, placeReceiver}
-use Rattle.undamaged.proofs.Entries.{slot-allowed}
+use Rattle.road.proofs.Judged.{slot-allowed}
+use Rattle.undamaged.proofs.Keeps.{receiver-in-kept}
 use Rattle.undamaged.proofs.place_receiver.Statement.{statement}
 use Rattle.undamaged.proofs.place_receiver.Tie as tie
 
@@ -38,8 +39,10 @@ returns c =
     let f = j .before in
     let start = f .before .before in
     let s = start .args .store .now in
+    let e =
     ap (λ (v : Verdict). told s (allow v (receiverIn (start .args .slot) (start .args .r) (bookOf s))))
-    (sym (c .before .why .given .1) ∙ j .judge-slot .ensures ∙ ap (slotVerdict 63 (start .args .slot)) (f .judge-receiver .ensures))
+    (sym (c .before .why .given .1) ∙ j .judge-slot .ensures ∙ ap (slotVerdict 63 (start .args .slot)) (f .judge-receiver .ensures)) in
+    (e, receiver-in-kept s (start .pre .1) (start .args .slot) (start .args .r) e)
 
 same-length : tie.Need-same-length
 same-length c = search needs
@@ -51,9 +54,11 @@ returns-2 c =
     let f = j .before in
     let start = f .before .before in
     let s = start .args .store .now in
+    let e =
     c .before .before .enter-receiver .ensures
     ∙ ap (λ (v : Verdict). told s (allow v (receiverIn (start .args .slot) (start .args .r) (bookOf s))))
-    (sym (c .before .before .before .before .enum-told .given .1) ∙ j .judge-slot .ensures ∙ ap (slotVerdict 63 (start .args .slot)) (f .judge-receiver .ensures))
+    (sym (c .before .before .before .before .enum-told .given .1) ∙ j .judge-slot .ensures ∙ ap (slotVerdict 63 (start .args .slot)) (f .judge-receiver .ensures)) in
+    (e, receiver-in-kept s (start .pre .1) (start .args .slot) (start .args .r) e)
 
 pub place-receiver-spec : {M : Type 1} → statement M
 place-receiver-spec = tie.close (tie.spec judge-receiver-requires judge-slot-requires enum-known-why enum-told enter-receiver-requires returns same-length returns-2)

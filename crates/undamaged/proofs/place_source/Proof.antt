@@ -7,7 +7,9 @@ use Rattle.road.specs.declared.Verdict.{Verdict}
 use Rattle.road.specs.Judge.{slotVerdict}
 use Rattle.store.specs.Store.{bookOf}
 use Rattle.undamaged.specs.Calls.{told, allow, sourceIn, placeSource}
-use Rattle.undamaged.proofs.Entries.{slot-allowed}
+use Rattle.road.proofs.Judged.{slot-allowed}
+use Rattle.road.proofs.Periods.{owned-periods}
+use Rattle.undamaged.proofs.Keeps.{source-in-kept}
 use Rattle.undamaged.proofs.place_source.Statement.{statement}
 use Rattle.undamaged.proofs.place_source.Tie as tie
 
@@ -38,8 +40,10 @@ returns c =
     let f = j .before in
     let start = f .before .before in
     let s = start .args .store .now in
+    let e =
     ap (λ (v : Verdict). told s (allow v (sourceIn (start .args .slot) (start .args .s) (bookOf s))))
-    (sym (c .before .why .given .1) ∙ j .judge-slot .ensures ∙ ap (slotVerdict 511 (start .args .slot)) (f .judge-source .ensures))
+    (sym (c .before .why .given .1) ∙ j .judge-slot .ensures ∙ ap (slotVerdict 511 (start .args .slot)) (f .judge-source .ensures)) in
+    (e, source-in-kept s (start .pre .1) (start .args .slot) (start .args .s) (owned-periods (start .args .s) _ (start .good .1 .1 .1 .0)) e)
 
 same-length : tie.Need-same-length
 same-length c = search needs
@@ -51,9 +55,11 @@ returns-2 c =
     let f = j .before in
     let start = f .before .before in
     let s = start .args .store .now in
+    let e =
     c .before .before .enter-source .ensures
     ∙ ap (λ (v : Verdict). told s (allow v (sourceIn (start .args .slot) (start .args .s) (bookOf s))))
-    (sym (c .before .before .before .before .enum-told .given .1) ∙ j .judge-slot .ensures ∙ ap (slotVerdict 511 (start .args .slot)) (f .judge-source .ensures))
+    (sym (c .before .before .before .before .enum-told .given .1) ∙ j .judge-slot .ensures ∙ ap (slotVerdict 511 (start .args .slot)) (f .judge-source .ensures)) in
+    (e, source-in-kept s (start .pre .1) (start .args .slot) (start .args .s) (owned-periods (start .args .s) _ (start .good .1 .1 .1 .0)) e)
 
 pub place-source-spec : {M : Type 1} → statement M
 place-source-spec = tie.close (tie.spec judge-source-requires judge-slot-requires enum-known-why enum-told enter-source-requires returns same-length returns-2)

@@ -9,7 +9,8 @@ use Rattle.road.specs.declared.Verdict.the-variants.{Allowed}
 use Rattle.road.specs.Judge.{slotVerdict}
 use Rattle.store.specs.Store.{bookOf}
 use Rattle.undamaged.specs.Calls.{told, allow, receiverOut, withdrawReceiver}
-use Rattle.undamaged.proofs.Entries.{slot-allowed}
+use Rattle.road.proofs.Judged.{slot-allowed}
+use Rattle.undamaged.proofs.Keeps.{receiver-out-kept}
 use Rattle.undamaged.proofs.withdraw_receiver.Statement.{statement}
 use Rattle.undamaged.proofs.withdraw_receiver.Tie as tie
 
@@ -34,7 +35,9 @@ returns c =
     let j = c .before .before .before in
     let start = j .before .before in
     let s = start .args .store .now in
-    ap (λ (v : Verdict). told s (allow v (receiverOut (start .args .slot) (bookOf s)))) (sym (c .before .why .given .1) ∙ j .judge-slot .ensures)
+    let e =
+    ap (λ (v : Verdict). told s (allow v (receiverOut (start .args .slot) (bookOf s)))) (sym (c .before .why .given .1) ∙ j .judge-slot .ensures) in
+    (e, receiver-out-kept s (start .pre) (start .args .slot) e)
 
 same-length : tie.Need-same-length
 same-length c = search needs
@@ -45,8 +48,10 @@ returns-2 c =
     let j = c .before .before .before .before .before .before in
     let start = j .before .before in
     let s = start .args .store .now in
+    let e =
     c .before .before .leave-receiver .ensures
-    ∙ ap (λ (v : Verdict). told s (allow v (receiverOut (start .args .slot) (bookOf s)))) (sym (c .before .before .before .before .enum-told .given .1) ∙ j .judge-slot .ensures)
+    ∙ ap (λ (v : Verdict). told s (allow v (receiverOut (start .args .slot) (bookOf s)))) (sym (c .before .before .before .before .enum-told .given .1) ∙ j .judge-slot .ensures) in
+    (e, receiver-out-kept s (start .pre) (start .args .slot) e)
 
 pub withdraw-receiver-spec : {M : Type 1} → statement M
 withdraw-receiver-spec = tie.close (tie.spec judge-slot-requires enum-known-why enum-told leave-receiver-requires returns same-length returns-2)
