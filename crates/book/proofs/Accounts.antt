@@ -1,25 +1,18 @@
 -- Accounts worked out afresh: what a source more or less makes of one, and that order does not matter.
 -- Assumes nothing.
-use mathlib.Core.Path.{_≡_, refl, subst, _∙_}
+use mathlib.Core.Path.{_≡_}
 use mathlib.Core.Bool.{true}
-use mathlib.Core.Option.{Option}
 use mathlib.Core.List.{List, _∷_, List·Permᴰ}
-use Prim.Native.Nat.{ℕ, _+_, _*_, _≤_}
+use Prim.Native.Nat.{_+_}
 use native.Mathlib.Nat.{add-comm, add-sub-cancel-left}
 use native.Mathlib.Omega.{arith}
-use lib.Dec.{leb}
-use lib.ListN.{length}
 use borrow.Author.Tests.{le-leb}
 use Rattle.road.specs.declared.Source.{Source}
 use Rattle.road.specs.declared.Receiver.{Receiver}
-use Rattle.road.specs.declared.Pair.{Pair}
-use Rattle.road.specs.declared.Pair.the-variants.{Heard, Barred}
-use Rattle.road.specs.Reach.{shareOf, sharesOf, pairOf}
-use Rattle.road.proofs.Pairs.{Sound, heard-is}
-use Rattle.store.specs.Account.{top, soundB, coversB}
-use Rattle.store.specs.Store.{sourceSlots, receiverSlots}
-use Rattle.ledger.specs.Lists.{present, weigh}
-use Rattle.undamaged.specs.Calls.{more, less, isHeard}
+use Rattle.road.specs.Reach.{shareOf, sharesOf}
+use Rattle.store.specs.Account.{coversB}
+use Rattle.ledger.specs.Lists.{weigh}
+use Rattle.undamaged.specs.Calls.{more, less}
 use Rattle.undamaged.proofs.Sums.{and-both}
 use Rattle.book.specs.History.{total}
 use Rattle.book.proofs.Slots.{perm-sum}

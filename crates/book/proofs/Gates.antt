@@ -20,7 +20,7 @@ use Rattle.road.specs.Judge.{slotVerdict}
 use Rattle.road.proofs.Judged.{slot-allowed, ByFields, slot-by, by-apart}
 use Rattle.store.specs.Store.{Book}
 use Rattle.undamaged.specs.declared.Answer.{Answer}
-use Rattle.ledger.specs.Lists.{omap, present, orBar, firstBar}
+use Rattle.ledger.specs.Lists.{omap, orBar, firstBar}
 use Rattle.undamaged.specs.Calls.{used, Step, refuse, tell, change, allow, intoFree, fromUsed, unlessBarred}
 use Rattle.undamaged.specs.Calls.{unlessLate, isHeard}
 use Rattle.undamaged.proofs.Sums.{heardAll, never}

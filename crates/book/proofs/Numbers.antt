@@ -1,7 +1,7 @@
 -- The numbers that a call may be answered, for any store: 5 to 7 by slot and fields, 8 and 9 by the slot's use, 10 to 13 by the pairs, and 1.
 -- Assumes nothing.
-use mathlib.Core.Path.{_≡_, refl}
-use mathlib.Core.Logic.{_⊎_, inl, inr}
+use mathlib.Core.Path.{refl}
+use mathlib.Core.Logic.{inl, inr}
 use mathlib.Core.Bool.{Bool, true, false, cond}
 use mathlib.Core.Option.{Option, none, some}
 use mathlib.Core.List.{List}

@@ -1,13 +1,13 @@
 -- The laws of each kind: the fields of a call are those that its kind reads back as the call, and fields that are read are those of their call.
 -- A new kind is a new clause of each law. Assumes nothing.
-use Prim.Native.Nat.{ℕ, zero, suc, _+_, _≤_, _<_}
+use Prim.Native.Nat.{ℕ, zero, suc, _+_, _<_}
 use mathlib.Core.Path.{_≡_, refl, sym, ap, _∙_, subst⁻¹}
 use mathlib.Core.Bool.{Bool, true, false, cond}
 use mathlib.Core.List.{List, [], _∷_}
 use native.Mathlib.Omega.{arith}
-use borrow.Author.Tests.{ltb-false, leb-true}
-use lib.Dec.{ltb, leb, eqb, lit<}
-use lib.ListN.{length, getD}
+use borrow.Author.Tests.{ltb-false}
+use lib.Dec.{ltb, eqb, lit<}
+use lib.ListN.{length}
 use Rattle.layout.specs.Layout.{size, packed, Within}
 use Rattle.layout.specs.Bounds.{firstOutside, Inside, under}
 use Rattle.layout.proofs.Bounds.{none-outside, inside-within}
@@ -19,7 +19,7 @@ use Rattle.road.specs.declared.Verdict.the-variants.{Allowed, Refused}
 use Rattle.road.proofs.Fit.{passed}
 use Rattle.road.proofs.Judged.{slot-allowed}
 use Rattle.road.proofs.Periods.{periods-again}
-use Rattle.road.specs.Judge.{sourceFields, sourceLeast, sourceMost, receiverFields, receiverLeast, receiverMost, unlessOutside, slowSurface, quietTruck, sourceVerdict, receiverVerdict, slotVerdict, lastSource, lastReceiver}
+use Rattle.road.specs.Judge.{sourceFields, sourceLeast, sourceMost, receiverFields, receiverLeast, receiverMost, unlessOutside, slowSurface, quietTruck, sourceVerdict, receiverVerdict, lastSource, lastReceiver}
 use Rattle.codec.specs.declared.Call.{Call}
 use Rattle.codec.specs.declared.Call.the-variants.{PlaceReceiver, WithdrawReceiver, PlaceSource, WithdrawSource, Ask}
 use Rattle.codec.specs.Record.{recordOf}

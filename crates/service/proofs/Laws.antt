@@ -16,16 +16,17 @@ use Rattle.codec.specs.declared.Told.{Told}
 use Rattle.codec.specs.declared.Told.the-variants as told
 use Rattle.codec.specs.Record.{lengthOf, readOf, extentOf}
 use Rattle.codec.proofs.Trips.{three-periods}
-use Rattle.store.specs.Store.{Book, damaged, bookOf}
+use Rattle.store.specs.Store.{Book, damaged}
 use Rattle.undamaged.specs.declared.Answer.{Answer}
 use Rattle.undamaged.specs.declared.Answer.the-variants as answer
-use Rattle.undamaged.specs.Calls.{Step, refuse, placeSource, withdrawSource, placeReceiver, withdrawReceiver, askReceiver, onStore}
+use Rattle.undamaged.specs.Calls as calls
+use Rattle.undamaged.specs.Calls.{refuse, placeSource, withdrawSource, placeReceiver, withdrawReceiver, askReceiver}
 use Rattle.book.specs.History.{RealCall, perform}
 use Rattle.undamaged.proofs.Entries.{on-damaged, on-sound}
 use Rattle.book.proofs.Theorems.{of-this-book}
 use Rattle.service.specs.declared.Outcome.{Outcome}
 use Rattle.service.specs.declared.Deed.{Deed}
-use Rattle.service.specs.Service.{callOf, slotIn, outcomeOf, answerTold, deed, doneTo}
+use Rattle.service.specs.Service.{callOf, slotIn, outcomeOf, answerTold, deed, doneTo, numberIn, placeIn, Rows}
 
 -- the call of a reading is one that code can make
 real : (r : Request) (s : Source) → length (s .traffic) ≡ 3 → RealCall (callOf r s)
@@ -39,6 +40,19 @@ abbrev at : Outcome → ℕ → Deed
 at o n = record { outcome = o; extent = n }
 
 module _ (job store : List ℕ) where
+  -- where the store is damaged
+  answer-damaged : (t : Told) (s : Source) → damaged store ≡ true → (answer.Refused Damaged, store) ≡ answerTold t s store
+  answer-damaged (told.Refused why) s d = on-damaged (λ (b : Book). refuse why) store d
+  answer-damaged (told.Call (request.PlaceReceiver j r)) s d = on-damaged (placeReceiver j r) store d
+  answer-damaged (told.Call (request.WithdrawReceiver j)) s d = on-damaged (withdrawReceiver j) store d
+  answer-damaged (told.Call (request.PlaceSource i)) s d = on-damaged (placeSource i s) store d
+  answer-damaged (told.Call (request.WithdrawSource i)) s d = on-damaged (withdrawSource i) store d
+  answer-damaged (told.Call (request.Ask j)) s d = on-damaged (askReceiver j) store d
+
+  pub on-damage : damaged store ≡ true → deed (told.Refused Damaged) (extentOf job) (answer.Refused Damaged, store) ≡ doneTo job store
+  unfolding doneTo
+  on-damage d = ap (deed (readOf job .told) (extentOf job)) (answer-damaged (readOf job .told) (readOf job .source) d)
+
   -- where a call is read
   pub called : (r : Request) (s : Source) (a : Answer) (u : List ℕ) (x : Outcome) (n : ℕ) → readOf job .told ≡ told.Call r → readOf job .source ≡ s
       → (a, u) ≡ perform (callOf r s) store → x ≡ outcomeOf (slotIn r) a → n ≡ extentOf job → (record { outcome = x; extent = n }, u) ≡ doneTo job store
@@ -62,19 +76,6 @@ module _ (job store : List ℕ) where
       ap (deed (told.Refused why) (extentOf job)) (on-sound (λ (b : Book). refuse why) store d)
       ∙ ap (λ (t : Told). deed t (extentOf job) (answerTold t (readOf job .source) store)) (sym e)
 
-  -- where the store is damaged
-  answer-damaged : (t : Told) (s : Source) → damaged store ≡ true → (answer.Refused Damaged, store) ≡ answerTold t s store
-  answer-damaged (told.Refused why) s d = on-damaged (λ (b : Book). refuse why) store d
-  answer-damaged (told.Call (request.PlaceReceiver j r)) s d = on-damaged (placeReceiver j r) store d
-  answer-damaged (told.Call (request.WithdrawReceiver j)) s d = on-damaged (withdrawReceiver j) store d
-  answer-damaged (told.Call (request.PlaceSource i)) s d = on-damaged (placeSource i s) store d
-  answer-damaged (told.Call (request.WithdrawSource i)) s d = on-damaged (withdrawSource i) store d
-  answer-damaged (told.Call (request.Ask j)) s d = on-damaged (askReceiver j) store d
-
-  pub on-damage : damaged store ≡ true → deed (told.Refused Damaged) (extentOf job) (answer.Refused Damaged, store) ≡ doneTo job store
-  unfolding doneTo
-  on-damage d = ap (deed (readOf job .told) (extentOf job)) (answer-damaged (readOf job .told) (readOf job .source) d)
-
 -- the next record begins within the job, or where it ends
 extent-within : (s : List ℕ) → extentOf s ≤ length s
 unfolding extentOf
@@ -92,3 +93,18 @@ goes-by job store = refl
 pub goes-within : (job store : List ℕ) → doneTo job store .0 .extent ≤ length job
 unfolding doneTo
 goes-within job store = extent-within job
+
+-- ---- an outcome has the number and the place of its answer
+
+same-number : (slot : ℕ) (a : Answer) → numberIn (outcomeOf slot a) ≡ calls.numberIn a
+same-number slot answer.Done = refl
+same-number slot (answer.Levels den night) = refl
+same-number slot (answer.Refused why) = refl
+
+same-place : (slot : ℕ) (a : Answer) → placeIn (outcomeOf slot a) ≡ calls.placeIn a
+same-place slot answer.Done = refl
+same-place slot (answer.Levels den night) = refl
+same-place slot (answer.Refused why) = refl
+
+pub rows : Rows
+rows = record { same-number = same-number; same-place = same-place }

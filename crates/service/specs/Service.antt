@@ -1,23 +1,40 @@
 -- One record at the front of a job, read and done to a store: what comes of it, for any bytes and any store (document 01, 'Numbers a caller
 -- may get back': the lowest number that applies is given, so damage comes before what the reader refuses).
 use Prim.Native.Nat.{ℕ}
+use mathlib.Core.Path.{_≡_}
+use mathlib.Core.Option.{Option, none, some}
 use mathlib.Core.List.{List}
 use Rattle.answer.specs.declared.Refusal.{Refusal}
+use Rattle.answer.specs.Table.{numberBy, placeBy}
 use Rattle.road.specs.declared.Source.{Source}
-use Rattle.index.specs.declared.Index.{Index}
 use Rattle.codec.specs.declared.Call.{Call as Request}
 use Rattle.codec.specs.declared.Call.the-variants as request
 use Rattle.codec.specs.declared.Told.{Told}
 use Rattle.codec.specs.declared.Told.the-variants as told
-use Rattle.codec.specs.declared.Reading.{Reading}
 use Rattle.codec.specs.Record.{readOf, extentOf}
 use Rattle.undamaged.specs.declared.Answer.{Answer}
 use Rattle.undamaged.specs.declared.Answer.the-variants as answer
 use Rattle.undamaged.specs.Calls.{refuse, onStore}
+use Rattle.undamaged.specs.Calls as calls
 use Rattle.book.specs.History.{Call, PlaceSource, WithdrawSource, PlaceReceiver, WithdrawReceiver, Ask, perform}
 use Rattle.service.specs.declared.Outcome.{Outcome}
 use Rattle.service.specs.declared.Outcome.the-variants.{Done, Levels, Refused}
 use Rattle.service.specs.declared.Deed.{Deed}
+
+-- ---- number and place of what comes of a record: by its refusal, if it is one
+
+abbrev pub refusalIn : Outcome → Option Refusal
+refusalIn Done = none
+refusalIn (Levels slot den night) = none
+refusalIn (Refused why) = some why
+
+abbrev pub numberIn : Outcome → ℕ
+numberIn o = numberBy (refusalIn o)
+
+abbrev pub placeIn : Outcome → ℕ
+placeIn o = placeBy (refusalIn o)
+
+-- ---- what comes of a record
 
 -- the call of the book that a record asks for
 abbrev pub callOf : Request → Source → Call
@@ -57,3 +74,9 @@ deed t n o = (record { outcome = outcomeOf (slotTold t) (o .0); extent = n }, o 
 -- refusals 2 and 3, that is 0
 unfoldable pub doneTo : List ℕ → List ℕ → Deed × List ℕ
 doneTo job store = deed (readOf job .told) (extentOf job) (answerTold (readOf job .told) (readOf job .source) store)
+
+-- ---- what is promised of outcomes: each has the number and the place of the answer that it is made of
+
+pub record Rows : Type 0 where
+  pub same-number : (slot : ℕ) (a : Answer) → numberIn (outcomeOf slot a) ≡ calls.numberIn a
+  pub same-place : (slot : ℕ) (a : Answer) → placeIn (outcomeOf slot a) ≡ calls.placeIn a

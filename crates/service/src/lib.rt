@@ -8,8 +8,6 @@ use road::Source;
 use undamaged::Answer;
 ghost use mathlib.Core.Path.{_≡_};
 ghost use mathlib.Core.Bool.{false};
-ghost use Prim.Native.Nat.{_≤_};
-ghost use lib.ListN.{length};
 ghost use Rattle.level.specs.Table.{table};
 ghost use Rattle.store.specs.Store.{damaged};
 ghost use Rattle.book.specs.History.{perform};

@@ -1,11 +1,11 @@
 -- Every call keeps an undamaged store undamaged, whatever book stands in it: what it comes to is a book that a store can hold, or no change.
 -- Assumes nothing.
 use mathlib.Core.Path.{_≡_, refl, sym, ap, subst, _∙_}
-use mathlib.Core.Bool.{Bool, true, false, cond}
+use mathlib.Core.Bool.{Bool, true, false}
 use mathlib.Core.Option.{Option, none, some}
 use mathlib.Core.List.{List, [], _∷_, map}
 use Prim.Native.Nat.{ℕ, zero, suc}
-use lib.ListN.{length, getD, set, length-map}
+use lib.ListN.{length, getD, length-map}
 use Rattle.answer.specs.declared.Refusal.{Refusal}
 use Rattle.road.specs.declared.Source.{Source}
 use Rattle.road.specs.declared.Receiver.{Receiver}

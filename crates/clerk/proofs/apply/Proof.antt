@@ -1,5 +1,5 @@
 -- `apply` looks for damage before all else, then does as the service. Assumes nothing.
-use mathlib.Core.Path.{_≡_, sym, ap, ap₂, _∙_}
+use mathlib.Core.Path.{sym, ap, _∙_}
 use Prim.Native.Nat.{ℕ}
 use Rattle.answer.specs.declared.Refusal.the-variants.{Damaged}
 use Rattle.codec.specs.declared.Told.the-variants as told

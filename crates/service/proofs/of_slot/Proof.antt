@@ -1,5 +1,5 @@
 -- `of_slot` gives an answer of the book its slot, case by case. Assumes nothing.
-use mathlib.Core.Path.{_≡_, sym, ap}
+use mathlib.Core.Path.{sym, ap}
 use borrow.Author.Needs.{needs}
 use Rattle.service.specs.Service.{outcomeOf}
 use Rattle.service.proofs.of_slot.Statement.{statement}

@@ -1,10 +1,7 @@
 -- `perform` hands each call to the inner call of the book; on an undamaged store that is what the book's own call gives. Assumes nothing.
-use mathlib.Core.Path.{_≡_, sym, ap, _∙_}
-use mathlib.Core.List.{List}
-use Prim.Native.Nat.{ℕ}
+use mathlib.Core.Path.{sym, ap, _∙_}
 use borrow.Author.Needs.{needs}
 use Rattle.codec.specs.declared.Call.{Call as Request}
-use Rattle.undamaged.specs.declared.Answer.{Answer}
 use Rattle.undamaged.specs.Calls.{placeSource, withdrawSource, placeReceiver, withdrawReceiver, askReceiver}
 use Rattle.book.specs.History.{perform}
 use Rattle.undamaged.proofs.Entries.{on-sound}
@@ -49,7 +46,7 @@ returns : tie.Need-returns
 returns c =
     let start = c .before .before .before .before .before .before .before .before in
     let v = c .before .before .before .before .before .call .given in
-    c .before .before .place-receiver .ensures
+    c .before .before .place-receiver .ensures .0
     ∙ on-sound (placeReceiver (v .0 .0) (v .0 .1 .0)) (start .args .store .now) (start .pre .1)
     ∙ ap (λ (r : Request). perform (callOf r (start .args .source)) (start .args .store .now)) (sym (v .1))
 
@@ -60,7 +57,7 @@ returns-2 : tie.Need-returns-2
 returns-2 c =
     let start = c .before .before .before .before .before .before .before .before in
     let v = c .before .before .before .before .before .call2 .given in
-    c .before .before .withdraw-receiver .ensures
+    c .before .before .withdraw-receiver .ensures .0
     ∙ on-sound (withdrawReceiver (v .0 .0)) (start .args .store .now) (start .pre .1)
     ∙ ap (λ (r : Request). perform (callOf r (start .args .source)) (start .args .store .now)) (sym (v .1))
 
@@ -71,7 +68,7 @@ returns-3 : tie.Need-returns-3
 returns-3 c =
     let start = c .before .before .before .before .before .before .before .before in
     let v = c .before .before .before .before .before .call3 .given in
-    c .before .before .place-source .ensures
+    c .before .before .place-source .ensures .0
     ∙ on-sound (placeSource (v .0 .0) (start .args .source)) (start .args .store .now) (start .pre .1)
     ∙ ap (λ (r : Request). perform (callOf r (start .args .source)) (start .args .store .now)) (sym (v .1))
 
@@ -82,7 +79,7 @@ returns-4 : tie.Need-returns-4
 returns-4 c =
     let start = c .before .before .before .before .before .before .before .before in
     let v = c .before .before .before .before .before .call4 .given in
-    c .before .before .withdraw-source .ensures
+    c .before .before .withdraw-source .ensures .0
     ∙ on-sound (withdrawSource (v .0 .0)) (start .args .store .now) (start .pre .1)
     ∙ ap (λ (r : Request). perform (callOf r (start .args .source)) (start .args .store .now)) (sym (v .1))
 

@@ -1,21 +1,13 @@
 -- `indices` reads a receiver's account and tells its two indices. Assumes nothing.
-use mathlib.Core.Path.{_≡_, refl, sym, ap, ap₂, _∙_}
-use Prim.Native.Nat.{ℕ, _+_, _-_, _*_, _/_, _≤_, _<_}
-use native.Mathlib.Omega.{arith}
+use mathlib.Core.Path.{sym, ap, _∙_}
+use Prim.Native.Nat.{ℕ, _-_, _≤_}
 use borrow.Author.Needs.{needs}
-use mathlib.Core.List.{List, [], _∷_, map}
-use mathlib.Core.Option.{Option, none, some}
-use mathlib.Core.Bool.{Bool, true, false}
+use mathlib.Core.Option.{Option}
 use borrow.Author.Tests.{not-true, not-false}
-use Rattle.level.specs.Table.{table}
 use borrow.Author.Tests.{leb-true}
-use lib.ListN.{getD}
-use Rattle.index.specs.declared.Index.{Index}
 use Rattle.store.specs.declared.Held.{Held}
-use Rattle.store.specs.Account.{top, soundB}
-use Rattle.store.specs.Store.{bookOf}
+use Rattle.store.specs.Account.{top}
 use Rattle.store.proofs.Laws.{undamaged}
-use Rattle.undamaged.specs.declared.Answer.{Answer}
 use Rattle.undamaged.specs.declared.Answer.the-variants.{Levels}
 use Rattle.undamaged.specs.Calls.{Step, tell, told, fromUsed}
 use Rattle.index.specs.Index.{ldenOf, lnightOf}

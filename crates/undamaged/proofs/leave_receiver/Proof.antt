@@ -1,10 +1,9 @@
 -- `leave_receiver` makes a used slot all zero. Assumes nothing.
-use mathlib.Core.Path.{_≡_, refl, sym, ap, ap₂, _∙_}
-use Prim.Native.Nat.{ℕ, _+_, _-_, _*_, _/_, _≤_, _<_}
+use mathlib.Core.Path.{sym, ap, _∙_}
+use Prim.Native.Nat.{ℕ, _-_}
 use borrow.Author.Needs.{needs}
-use mathlib.Core.List.{List, [], _∷_, map}
-use mathlib.Core.Option.{Option, none, some}
-use mathlib.Core.Bool.{Bool, true, false}
+use mathlib.Core.List.{List}
+use mathlib.Core.Option.{Option, none}
 use borrow.Author.Tests.{not-true, not-false}
 use lib.ListN.{set}
 use Rattle.store.specs.declared.Held.{Held}
@@ -12,7 +11,7 @@ use Rattle.store.specs.Store.{book, bookOf}
 use Rattle.store.proofs.Laws.{undamaged, set-held}
 use Rattle.undamaged.specs.declared.Answer.{Answer}
 use Rattle.undamaged.specs.declared.Answer.the-variants.{Done}
-use Rattle.undamaged.specs.Calls.{Step, change, told, fromUsed}
+use Rattle.undamaged.specs.Calls.{change, told, fromUsed}
 use Rattle.ledger.proofs.Entries.{seat-free, seat-used}
 use Rattle.undamaged.proofs.leave_receiver.Statement.{statement}
 use Rattle.undamaged.proofs.leave_receiver.Tie as tie

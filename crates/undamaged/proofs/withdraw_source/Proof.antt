@@ -1,12 +1,10 @@
 -- `withdraw_source` judges the slot first. Assumes nothing.
-use mathlib.Core.Path.{_≡_, refl, sym, ap, ap₂, _∙_}
-use Prim.Native.Nat.{ℕ, _+_, _-_, _*_, _/_, _≤_, _<_}
+use mathlib.Core.Path.{sym, ap, _∙_}
+use Prim.Native.Nat.{_-_}
 use native.Mathlib.Omega.{arith}
 use borrow.Author.Needs.{needs}
-use mathlib.Core.List.{List, [], _∷_, map}
 use Rattle.road.specs.declared.Verdict.{Verdict}
 use Rattle.road.specs.declared.Verdict.the-variants.{Allowed}
-use Rattle.road.specs.Judge.{slotVerdict}
 use Rattle.store.specs.Store.{bookOf}
 use Rattle.undamaged.specs.Calls.{told, allow, sourceOut, withdrawSource}
 use Rattle.road.proofs.Judged.{slot-allowed}
