@@ -1,6 +1,7 @@
 -- Document 01's table of numbers: the number and the place of each refusal. Done is 0 at place 0.
--- Every promise that speaks of a number goes through these two definitions.
-use Prim.Native.Nat.{ℕ}
+-- Every promise that speaks of a number goes through these definitions.
+use Prim.Native.Nat.{ℕ, _≤_}
+use mathlib.Core.Option.{Option, none, some}
 use Rattle.answer.specs.declared.Refusal.{Refusal}
 use Rattle.answer.specs.declared.Refusal.the-variants.{Damaged, CutShort, UnknownKind, Leftover, Field, SlowSurface, QuietTruck, Taken, Vacant, TooNear, TooFar, TooLong, TooLoud}
 
@@ -33,3 +34,18 @@ placeOf (TooNear s) = s
 placeOf (TooFar s) = s
 placeOf (TooLong s) = s
 placeOf (TooLoud s) = s
+
+-- ---- of an answer: each kind of answer says which refusal it holds, if any
+
+-- what is done or told is 0 at place 0
+abbrev pub numberBy : Option Refusal → ℕ
+numberBy none = 0
+numberBy (some why) = numberOf why
+
+abbrev pub placeBy : Option Refusal → ℕ
+placeBy none = 0
+placeBy (some why) = placeOf why
+
+-- the rows a to b
+abbrev pub Between : ℕ → ℕ → ℕ → Type 0
+Between a b n = (a ≤ n) × (n ≤ b)

@@ -28,15 +28,15 @@ use Rattle.road.proofs.Figures.{figures-right}
 use Rattle.index.specs.Index.{ldenOf, lnightOf}
 use Rattle.index.specs.declared.Index.the-variants.{Quiet, Tenths}
 use Rattle.store.specs.Store.{sourceSlots, receiverSlots}
-use Rattle.book.specs.declared.Answer.{Answer}
-use Rattle.book.specs.declared.Answer.the-variants.{Levels, Refused}
+use Rattle.undamaged.specs.declared.Answer.{Answer}
+use Rattle.undamaged.specs.declared.Answer.the-variants.{Levels, Refused}
 use Rattle.ledger.specs.Lists.{present}
-use Rattle.book.specs.Calls.{Step, isHeard, refuse, allow, intoFree, told, placeSource}
+use Rattle.undamaged.specs.Calls.{Step, isHeard, refuse, allow, intoFree, told, placeSource}
+use Rattle.undamaged.proofs.Sums.{lanes-are}
 use Rattle.book.specs.History.{standingReceivers, Placing, source, receiver, calls, Rebuilds, Call, PlaceSource, WithdrawSource, PlaceReceiver}
 use Rattle.book.specs.History.{Ask, storeAfter, bookAfter, answerTo, Real, accepted, kept, lastAt, row, standingSource, standingReceiver}
 use Rattle.book.specs.History.{standingSources, levelsOf, Hears, Rule}
 use Rattle.book.proofs.Slots.{row-at}
-use Rattle.book.proofs.Accounts.{lanes-are}
 use Rattle.book.proofs.Gates.{slot-passes}
 use Rattle.book.proofs.Laws.{StoreLaws, store-laws}
 use Rattle.book.proofs.History.{laneAfter, seatAfter, on-store, accepts-by-rule, holds-what-stands}

@@ -16,17 +16,19 @@ use Rattle.road.specs.Judge.{sourceVerdict, receiverVerdict, slotVerdict, lastS
 use Rattle.store.specs.declared.Held.{Held}
 use Rattle.store.specs.Account.{soundB, coversB}
 use Rattle.store.specs.Store.{Book, book, sourceSlots, receiverSlots, SourceStands, HeldStands, SoundBook}
-use Rattle.book.specs.declared.Answer.{Answer}
-use Rattle.ledger.specs.Lists.{omap, present, every, firstBar, weigh}
-use Rattle.book.specs.Calls.{used, Step, tell, allow, fromUsed, more, less, hasRoom, canReturn}
-use Rattle.book.specs.Calls.{placeSource, withdrawSource, placeReceiver, withdrawReceiver, askReceiver}
-use Rattle.book.specs.History.{Call, PlaceSource, WithdrawSource, PlaceReceiver, WithdrawReceiver, Ask, RealCall, All, accepted, sourceMove}
+use Rattle.undamaged.specs.declared.Answer.{Answer}
+use Rattle.ledger.specs.Lists.{omap, present, every, firstBar, weigh, All}
+use Rattle.undamaged.specs.Calls.{used, Step, tell, allow, fromUsed, more, less, hasRoom, canReturn}
+use Rattle.undamaged.specs.Calls.{placeSource, withdrawSource, placeReceiver, withdrawReceiver, askReceiver}
+use Rattle.road.proofs.Judged.{source-by, receiver-by}
+use Rattle.undamaged.proofs.Sums.{HearsAll, all-map, and-both, bars-pass, lanes-are, never, seats-are, weigh-sound}
+use Rattle.book.specs.History.{Call, PlaceSource, WithdrawSource, PlaceReceiver, WithdrawReceiver, Ask, RealCall, accepted, sourceMove}
 use Rattle.book.specs.History.{receiverMove, row, levelsOf, Hears, Rule}
-use Rattle.book.proofs.Slots.{never, and-both, all-map, all-both, all-set, all-at, every-all, every-omap, omap-set, omap-twice, omap-unused}
+use Rattle.book.proofs.Slots.{all-both, all-set, all-at, every-all, every-omap, omap-set, omap-twice, omap-unused}
 use Rattle.book.proofs.Slots.{used-omap, perm-put, perm-take, row-length, row-at, moved}
-use Rattle.book.proofs.Accounts.{lanes-are, seats-are, HearsAll, more-is, less-is, covers-is, weigh-perm, weigh-sound}
-use Rattle.book.proofs.Gates.{Fine, past-free, past-used, past-bars, past-late, bars-pass, bars-none, bars-apart, bars-omap, allowed-apart}
-use Rattle.book.proofs.Gates.{source-apart, receiver-apart, slot-passes, past-fields}
+use Rattle.book.proofs.Accounts.{more-is, less-is, covers-is, weigh-perm}
+use Rattle.book.proofs.Gates.{Fine, past-free, past-used, past-bars, past-late, bars-none, bars-apart, bars-omap}
+use Rattle.book.proofs.Gates.{slot-passes, past-fields}
 
 -- ---- a filled book
 
@@ -115,7 +117,7 @@ module _ (lane : ℕ → Option Source) (seat : ℕ → Option Receiver) where
   unfolding placeSource
   place-source i s p =
       let who : Held → Pair = λ x. pairOf s (x .who) in
-      past-fields _ _ _ lastSource i (sourceVerdict s) _ (source-apart s) (λ n. (omega (arith, n .0, lanes-are), n .1)) λ ok.
+      past-fields _ _ _ lastSource i (sourceVerdict s) _ (source-by s) (λ n. (omega (arith, n .0, lanes-are), n .1)) λ ok.
       past-free _ _ _ (getD S i none) _ (λ n. lane-is i (ok .0) ∙ n .2) λ free.
       past-bars _ _ _ (firstBar who 0 (fill S R .receivers)) _ (bars-apart _ 0 _)
       (λ n. bars-omap afresh who 0 R ∙ bars-none (λ r. pairOf s r) 0 R (n .3)) λ bars.
@@ -158,7 +160,7 @@ module _ (lane : ℕ → Option Source) (seat : ℕ → Option Receiver) where
   pub withdraw-source : (i : ℕ) → Standing S R → Leads (WithdrawSource i) (withdrawSource i (fill S R))
   unfolding withdrawSource
   withdraw-source i p =
-      past-fields _ _ _ lastSource i Allowed _ allowed-apart (λ n. (omega (arith, n .0, lanes-are), refl)) λ ok.
+      past-fields _ _ _ lastSource i Allowed _ tt (λ n. (omega (arith, n .0, lanes-are), refl)) λ ok.
       past-used _ _ _ (getD S i none) _ (λ n. ap used (lane-is i (ok .0)) ∙ n .1) λ s there.
       past-late _ _ _ _ _ (returns i s there (p .heard)) (
         (omega (arith, ok .0, lanes-are), ap used (sym (lane-is i (ok .0)) ∙ there)),
@@ -180,7 +182,7 @@ module _ (lane : ℕ → Option Source) (seat : ℕ → Option Receiver) where
   pub place-receiver : (j : ℕ) (r : Receiver) → Standing S R → Leads (PlaceReceiver j r) (placeReceiver j r (fill S R))
   unfolding placeReceiver
   place-receiver j r p =
-      past-fields _ _ _ lastReceiver j (receiverVerdict r) _ (receiver-apart r) (λ n. (omega (arith, n .0, seats-are), n .1)) λ ok.
+      past-fields _ _ _ lastReceiver j (receiverVerdict r) _ (receiver-by r) (λ n. (omega (arith, n .0, seats-are), n .1)) λ ok.
       past-free _ _ _ (getD (fill S R .receivers) j none) _ (λ n. seat-is j (ok .0) ∙ ap (omap afresh) (n .2)) λ free.
       past-bars _ _ _ (firstBar (λ (s : Source). pairOf s r) 0 S) _ (bars-apart _ 0 S) (λ n. bars-none (λ s. pairOf s r) 0 S (n .3)) λ bars.
       let hears = bars-pass (λ s. pairOf s r) 0 S bars in (
@@ -205,7 +207,7 @@ module _ (lane : ℕ → Option Source) (seat : ℕ → Option Receiver) where
   at-seat : (j : ℕ) (Q : Answer → Type 0) (P : Book → Type 0) (k : Held → Step) → ((x : Held) → Seated j → Fine (Seated j) Q P (k x))
       → Fine (Seated j) Q P (allow (slotVerdict lastReceiver j Allowed) (fromUsed (getD (fill S R .receivers) j none) k))
   at-seat j Q P k f =
-      past-fields _ _ _ lastReceiver j Allowed _ allowed-apart (λ n. (omega (arith, n .0, seats-are), refl)) λ ok.
+      past-fields _ _ _ lastReceiver j Allowed _ tt (λ n. (omega (arith, n .0, seats-are), refl)) λ ok.
       let same : used (getD (fill S R .receivers) j none) ≡ used (seat j) = ap used (seat-is j (ok .0)) ∙ used-omap afresh (seat j) in
       past-used _ _ _ (getD (fill S R .receivers) j none) _ (λ n. same ∙ n .1) λ x there.
       f x (omega (arith, ok .0, seats-are), sym same ∙ ap used there)

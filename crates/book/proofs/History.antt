@@ -18,16 +18,16 @@ use Rattle.road.specs.declared.Receiver.{Receiver}
 use Rattle.store.specs.declared.Held.{Held}
 use Rattle.store.specs.Store.{Book, damaged, bookOf, bytesOf, storeLength, clearedBytes, emptyBook, book, sourceSlots, receiverSlots, SourceStands}
 use Rattle.store.specs.Store.{SoundBook}
-use Rattle.book.specs.declared.Answer.{Answer}
-use Rattle.book.specs.declared.Answer.the-variants.{Done, Levels, Refused}
+use Rattle.undamaged.specs.declared.Answer.{Answer}
+use Rattle.undamaged.specs.declared.Answer.the-variants.{Done, Levels, Refused}
 use Rattle.ledger.specs.Lists.{omap, present, weigh}
-use Rattle.book.specs.Calls.{numberIn, Step, refuse, tell, change, told, onStore, clearStore, placeSource, withdrawSource}
-use Rattle.book.specs.Calls.{placeReceiver, withdrawReceiver, askReceiver}
+use Rattle.undamaged.specs.Calls.{numberIn, Step, refuse, tell, change, told, onStore, clearStore, placeSource, withdrawSource}
+use Rattle.undamaged.specs.Calls.{placeReceiver, withdrawReceiver, askReceiver}
+use Rattle.undamaged.proofs.Sums.{HearsAll, never}
 use Rattle.book.specs.History.{Call, Clear, PlaceSource, WithdrawSource, PlaceReceiver, WithdrawReceiver, Ask, perform, storeAfter, RealCall, answerTo}
 use Rattle.book.specs.History.{Real, accepted, kept, sourceMove, receiverMove, allLeave, lastAt, row, standingSource, standingReceiver}
 use Rattle.book.specs.History.{standingSources, standingReceivers, SumsOf, HoldsWhatStands, NeverLate, Rule, AcceptsByRule}
-use Rattle.book.proofs.Slots.{never, all-none, omap-none, slots-moved, slots-none}
-use Rattle.book.proofs.Accounts.{HearsAll}
+use Rattle.book.proofs.Slots.{all-none, omap-none, slots-moved, slots-none}
 use Rattle.book.proofs.Filled.{fill, ReceiverStands, Standing, fill-at, standing-sound, Next, Leads, place-source, withdraw-source}
 use Rattle.book.proofs.Filled.{place-receiver, withdraw-receiver, ask-receiver, ask-tells}
 use Rattle.book.proofs.Laws.{StoreLaws}

@@ -1,13 +1,11 @@
--- Laws of the book's calls: how an answer follows, a source that comes or goes; then the history theorems.
-pub mod Entries
-pub mod Turns
-pub mod Rounded
+-- The theorems on histories, and what they rest on: slots, accounts, gates, a book that is filled.
 pub mod Slots
 pub mod Accounts
 pub mod Gates
 pub mod Filled
 pub mod Laws
 pub mod Keeps
+pub mod Numbers
 pub mod History
 pub mod Rebuild
 pub mod Theorems

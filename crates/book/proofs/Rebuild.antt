@@ -10,14 +10,15 @@ use Rattle.road.specs.declared.Receiver.{Receiver}
 use Rattle.index.specs.Index.{ldenOf, lnightOf}
 use Rattle.store.specs.declared.Held.{Held}
 use Rattle.store.specs.Store.{sourceSlots, receiverSlots, SourceStands}
-use Rattle.book.specs.declared.Answer.the-variants.{Levels}
-use Rattle.ledger.specs.Lists.{present, weigh}
-use Rattle.book.specs.History.{Call, answerTo, Real, All, accepted, kept, sourceMove, receiverMove, lastAt, row, standingSource}
+use Rattle.undamaged.specs.declared.Answer.the-variants.{Levels}
+use Rattle.ledger.specs.Lists.{present, weigh, All}
+use Rattle.undamaged.proofs.Sums.{HearsAll, all-map}
+use Rattle.book.specs.History.{Call, answerTo, Real, accepted, kept, sourceMove, receiverMove, lastAt, row, standingSource}
 use Rattle.book.specs.History.{standingReceiver, standingSources, standingReceivers, levelsOf, SumsOf, Hears, Put, Placing, source, receiver}
 use Rattle.book.specs.History.{asCall, calls, sourcesIn, receiversIn, entriesOf, Apart, Rebuilds, AllAccepted, Rebuilt, inPlace, anew}
-use Rattle.book.proofs.Slots.{all-map, all-perm, row-length, entering, entering-free, entering-perm, entering-at, in-place-entries}
+use Rattle.book.proofs.Slots.{all-perm, row-length, entering, entering-free, entering-perm, entering-at, in-place-entries}
 use Rattle.book.proofs.Slots.{in-place-apart}
-use Rattle.book.proofs.Accounts.{HearsAll, weigh-perm}
+use Rattle.book.proofs.Accounts.{weigh-perm}
 use Rattle.book.proofs.Filled.{ReceiverStands}
 use Rattle.book.proofs.Laws.{StoreLaws}
 use Rattle.book.proofs.History.{sourcesAfter, receiversAfter, standing-sources, standing-receivers, holds, accepts-by-rule, holds-what-stands}

@@ -1,9 +1,8 @@
--- Each call of the book settles its outcome, the answer and the store at exit, and each index its result: one line for each.
+-- Each call of the book settles its outcome, the answer and the store at exit: one line for each.
 -- Assumes nothing.
 use denote.Ref.{now}
-use Rattle.answer.specs.Settled.{SettlesResult, SettlesBoth}
+use Rattle.answer.specs.Settled.{SettlesBoth}
 use Rattle.answer.proofs.Settled.{settled}
-use Rattle.index.proofs as index
 use Rattle.book.proofs
 
 clear-settled : SettlesBoth (λ l a e. now (e .0)) proofs.clear.Reads.Post
@@ -23,28 +22,3 @@ withdraw-receiver-settled l a = settled _ _
 
 ask-settled : SettlesBoth (λ l a e. now (e .0)) proofs.ask.Reads.Post
 ask-settled l a = settled _ _
-
--- ---- on a store that is known to be undamaged
-
-sound-place-source-settled : SettlesBoth (λ l a e. now (e .1 .0)) proofs.sound.place_source.Reads.Post
-sound-place-source-settled l a = settled _ _
-
-sound-withdraw-source-settled : SettlesBoth (λ l a e. now (e .1 .0)) proofs.sound.withdraw_source.Reads.Post
-sound-withdraw-source-settled l a = settled _ _
-
-sound-place-receiver-settled : SettlesBoth (λ l a e. now (e .1 .0)) proofs.sound.place_receiver.Reads.Post
-sound-place-receiver-settled l a = settled _ _
-
-sound-withdraw-receiver-settled : SettlesBoth (λ l a e. now (e .0)) proofs.sound.withdraw_receiver.Reads.Post
-sound-withdraw-receiver-settled l a = settled _ _
-
-sound-ask-settled : SettlesBoth (λ l a e. now (a .1 .0)) proofs.sound.ask.Reads.Post
-sound-ask-settled l a = settled _ _
-
--- ---- the indices, a crate that does not rest on the law
-
-lnight-settled : SettlesResult index.lnight.Reads.Post
-lnight-settled l a = settled _ _
-
-lden-settled : SettlesResult index.lden.Reads.Post
-lden-settled l a = settled _ _

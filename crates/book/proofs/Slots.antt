@@ -6,30 +6,19 @@ use mathlib.Core.Bool.{Bool, true, false, cond, _&&_}
 use mathlib.Core.Option.{Option, none, some}
 use mathlib.Core.List.{List, [], _∷_, map, List·Memᴰ, List·Memᴰ·head, List·Memᴰ·tail, List·Permᴰ, List·Permᴰ·nil, List·Permᴰ·cons, List·Permᴰ·swap}
 use mathlib.Core.List.{List·Permᴰ·trans, Permᴰ·refl}
-use Prim.Native.Nat.{ℕ, zero, suc, _+_, _*_, _≤_, _<_, zero-le}
-use native.Mathlib.Nat.{suc-mul, le-of-suc-le-suc, not-suc-le-zero}
+use Prim.Native.Nat.{ℕ, zero, suc, _+_, _≤_, _<_}
+use native.Mathlib.Nat.{le-of-suc-le-suc, not-suc-le-zero}
 use native.Mathlib.Omega.{arith}
 use lib.Dec.{eqb}
 use lib.ListN.{length, getD, set, replicate, length-set, length-replicate, getD-replicate}
 use lib.Seq.{getD-set-same, getD-set-other, ext-getD}
 use borrow.Author.Tests.{eqb-true, eqb-false, eq-eqb, ne-eqb}
-use Rattle.ledger.specs.Lists.{omap, present, every, sumOf}
-use Rattle.book.specs.Calls.{used}
-use Rattle.book.specs.History.{All, Move, enter, leave, allLeave, still, lastAt, row, Put, entriesOf, Apart, inPlace}
-
--- where `cc` finds that two constructors are equal
-pub never : {A : Type 0} → _≡_ {A = ℕ} 0 1 → A
-never e = absurd (omega arith)
-
-pub and-both : {a b : Bool} → a ≡ true → b ≡ true → a && b ≡ true
-and-both p q = rw (p, q)
+use Rattle.ledger.specs.Lists.{omap, present, every, sumOf, All}
+use Rattle.undamaged.specs.Calls.{used}
+use Rattle.undamaged.proofs.Sums.{and-both, never}
+use Rattle.book.specs.History.{Move, enter, leave, allLeave, still, lastAt, row, Put, entriesOf, Apart, inPlace}
 
 -- ---- what holds of each
-
-module _ {A : Type 0} (P Q : A → Type 0) where
-  pub all-map : ((a : A) → P a → Q a) → (l : List A) → All P l → All Q l
-  all-map f [] p = tt
-  all-map f (a ∷ l) p = (f a (p .0), all-map f l (p .1))
 
 module _ {A : Type 0} (P : A → Type 0) where
   pub all-both : {Q R : A → Type 0} → ((a : A) → P a → Q a → R a) → (l : List A) → All P l → All Q l → All R l
@@ -120,11 +109,6 @@ module _ {A : Type 0} where
   perm-sum f (List·Permᴰ·cons e π) = omega (arith, ap f e, perm-sum f π)
   perm-sum f (List·Permᴰ·swap e q) = omega (arith, ap f e, ap f q)
   perm-sum f (List·Permᴰ·trans π ρ) = perm-sum f π ∙ perm-sum f ρ
-
-  pub sum-most : (f : A → ℕ) (most : ℕ) (l : List (Option A)) → All (λ a. f a ≤ most) (present l) → sumOf f (present l) ≤ length l * most
-  sum-most f most [] h = zero-le
-  sum-most f most (none ∷ l) h = omega (arith, sum-most f most l h, suc-mul (length l) most)
-  sum-most f most (some a ∷ l) h = omega (arith, h .0, sum-most f most l (h .1), suc-mul (length l) most)
 
 -- ---- rows, and what moves make of them
 

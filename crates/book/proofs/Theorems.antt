@@ -4,6 +4,7 @@ use Rattle.book.specs.History.{Theorems}
 use Rattle.book.proofs.Laws.{StoreLaws, store-laws}
 use Rattle.book.proofs.History.{calls-agree, accepted-number, refused-leaves, clear-forgets, never-late, accepts-by-rule, holds-what-stands}
 use Rattle.book.proofs.Keeps.{stays-sound}
+use Rattle.book.proofs.Numbers.{numbers}
 use Rattle.book.proofs.Rebuild.{rebuilt, anew-rebuilds}
 
 pub theorems : StoreLaws → Theorems
@@ -15,6 +16,7 @@ theorems laws = record {
   anew-rebuilds = anew-rebuilds;
   clear-forgets = clear-forgets laws;
   accepted-number = accepted-number;
+  numbers = numbers;
   refused-leaves = refused-leaves;
   stays-sound = stays-sound;
   agrees = calls-agree;

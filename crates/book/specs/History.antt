@@ -2,13 +2,14 @@
 -- What stands is read off the calls and their answers, never off a store. The theorems say that the store agrees with it, whatever the calls.
 use Prim.Native.Nat.{ℕ, zero, suc, _<_}
 use mathlib.Core.Path.{_≡_}
-use mathlib.Core.Logic.{_≢_, _↔_}
+use mathlib.Core.Logic.{_≢_, _↔_, _⊎_}
 use mathlib.Core.Bool.{Bool, true, false, cond}
 use mathlib.Core.Option.{Option, none, some}
 use mathlib.Core.List.{List, [], _∷_, _++_, map, List·Memᴰ, List·Permᴰ}
 use lib.ListN.{length, getD}
 use lib.Dec.{eqb}
 use Rattle.answer.specs.Settled.{Agree}
+use Rattle.answer.specs.Table.{Between}
 use Rattle.road.specs.declared.Source.{Source}
 use Rattle.road.specs.declared.Receiver.{Receiver}
 use Rattle.road.specs.declared.Verdict.the-variants.{Allowed}
@@ -17,11 +18,11 @@ use Rattle.road.specs.Judge.{sourceVerdict, receiverVerdict}
 use Rattle.index.specs.Index.{ldenOf, lnightOf}
 use Rattle.store.specs.declared.Held.{Held}
 use Rattle.store.specs.Store.{Book, damaged, bookOf, clearedBytes, sourceSlots, receiverSlots}
-use Rattle.book.specs.declared.Answer.{Answer}
-use Rattle.book.specs.declared.Answer.the-variants.{Done, Levels, Refused}
-use Rattle.ledger.specs.Lists.{omap, present, sumOf}
-use Rattle.book.specs.Calls.{numberIn, used, isHeard, placeSource, withdrawSource, placeReceiver, withdrawReceiver, askReceiver}
-use Rattle.book.specs.Calls.{onStore, clearStore}
+use Rattle.undamaged.specs.declared.Answer.{Answer}
+use Rattle.undamaged.specs.declared.Answer.the-variants.{Done, Levels, Refused}
+use Rattle.ledger.specs.Lists.{omap, present, All, sumOf}
+use Rattle.undamaged.specs.Calls.{numberIn, used, isHeard, placeSource, withdrawSource, placeReceiver, withdrawReceiver, askReceiver}
+use Rattle.undamaged.specs.Calls.{onStore, clearStore}
 
 -- ---- a history: any calls, the latest first, refused ones among them
 
@@ -63,11 +64,6 @@ RealCall (WithdrawSource i) = Unit {0}
 RealCall (PlaceReceiver j r) = Unit {0}
 RealCall (WithdrawReceiver j) = Unit {0}
 RealCall (Ask j) = Unit {0}
-
--- P holds of each in a list
-abbrev pub All : {A : Type 0} → (A → Type 0) → List A → Type 0
-All P [] = Unit {0}
-All P (a ∷ l) = P a × All P l
 
 -- the histories that code can make
 abbrev pub Real : List Call → Type 0
@@ -254,7 +250,12 @@ anew h =
     map source (inPlace 0 (row sourceSlots (standingSource h)))
     ++ map receiver (inPlace 0 (row receiverSlots (standingReceiver h)))
 
--- ---- all together: for every history that code can make; the last three, for any bytes at all
+-- ---- what numbers the book may answer: done 0, damage 1, and 5 to 13
+
+abbrev pub BookNumber : ℕ → Type 0
+BookNumber n = (n ≡ 0) ⊎ ((n ≡ 1) ⊎ Between 5 13 n)
+
+-- ---- all together: for every history that code can make; the last ones, for any bytes at all
 
 pub record Theorems : Type 0 where
   pub holds-what-stands : (h : List Call) → Real h → HoldsWhatStands h
@@ -265,6 +266,7 @@ pub record Theorems : Type 0 where
   pub clear-forgets : (h : List Call) → Real h → (since : List Call) → storeAfter (since ++ Clear ∷ h) ≡ storeAfter since
   -- accepted are just the calls whose number is 0
   pub accepted-number : (a : Answer) → (accepted a ≡ true) ↔ (numberIn a ≡ 0)
+  pub numbers : (c : Call) (b : List ℕ) → BookNumber (numberIn (perform c b .0))
   pub refused-leaves : (c : Call) (b : List ℕ) → accepted (perform c b .0) ≡ false → perform c b .1 ≡ b
   pub stays-sound : (c : Call) → RealCall c → (b : List ℕ) → damaged b ≡ false → damaged (perform c b .1) ≡ false
   pub agrees : (c : Call) (b : List ℕ) → Agree (λ (o : Answer × List ℕ). o) (λ (o : Answer × List ℕ). o ≡ perform c b)

@@ -1,20 +1,11 @@
 // The book: sources and receivers in a store that the caller lends, and the calls on it.
-// What each call answers and leaves, for every store, is a definition of specs/Calls.antt; no call here requires anything.
-pub mod sound;
-
+// What each call answers and leaves, for every store, is a definition of undamaged/specs/Calls.antt; no call here requires anything.
 use answer::Refusal;
-use index::Index;
 use road::Receiver;
 use road::Source;
+pub use undamaged::Answer;
 ghost use mathlib.Core.Path.{_≡_};
-ghost use Rattle.book.specs.Calls.{onStore, clearStore, placeSource, withdrawSource, placeReceiver, withdrawReceiver, askReceiver};
-
-// What a call answers: done, the two indices of a receiver (L_DEN, then L_Night), or a refusal.
-pub enum Answer {
-    Done,
-    Levels(Index, Index),
-    Refused(Refusal),
-}
+ghost use Rattle.undamaged.specs.Calls.{onStore, clearStore, placeSource, withdrawSource, placeReceiver, withdrawReceiver, askReceiver};
 
 // Makes a store of the right length a book with nothing in it.
 pub fn clear(store: &mut [u8]) -> Answer
@@ -35,7 +26,7 @@ pub fn place_source(store: &mut [u8], slot: u16, s: Source) -> Answer
     if store::damaged(&steps, store) {
         return Answer::Refused(Refusal::Damaged);
     }
-    sound::place_source(&steps, store, slot, s)
+    undamaged::place_source(&steps, store, slot, s)
 }
 
 // Withdraws a source and takes its shares off every receiver.
@@ -46,7 +37,7 @@ pub fn withdraw_source(store: &mut [u8], slot: u16) -> Answer
     if store::damaged(&steps, store) {
         return Answer::Refused(Refusal::Damaged);
     }
-    sound::withdraw_source(&steps, store, slot)
+    undamaged::withdraw_source(&steps, store, slot)
 }
 
 // Places a receiver into a free slot with the shares of all standing sources.
@@ -57,7 +48,7 @@ pub fn place_receiver(store: &mut [u8], slot: u16, r: Receiver) -> Answer
     if store::damaged(&steps, store) {
         return Answer::Refused(Refusal::Damaged);
     }
-    sound::place_receiver(&steps, store, slot, r)
+    undamaged::place_receiver(&steps, store, slot, r)
 }
 
 // Withdraws a receiver.
@@ -68,7 +59,7 @@ pub fn withdraw_receiver(store: &mut [u8], slot: u16) -> Answer
     if store::damaged(&steps, store) {
         return Answer::Refused(Refusal::Damaged);
     }
-    sound::withdraw_receiver(store, slot)
+    undamaged::withdraw_receiver(store, slot)
 }
 
 // Asks a receiver for its two indices.
@@ -79,5 +70,5 @@ pub fn ask(store: &mut [u8], slot: u16) -> Answer
     if store::damaged(&steps, store) {
         return Answer::Refused(Refusal::Damaged);
     }
-    sound::ask(&steps, store, slot)
+    undamaged::ask(&steps, store, slot)
 }

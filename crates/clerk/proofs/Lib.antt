@@ -1,4 +1,2 @@
--- What a reading comes to on a store.
-pub mod Laws
-pub mod Own
+-- The clerk's call settles its outcome.
 pub mod Settled

@@ -1,12 +1,9 @@
--- Both calls of the clerk settle their outcome, the deed and the store at exit: one line for each.
+-- The clerk's call settles its outcome, the deed and the store at exit.
 -- Assumes nothing.
 use denote.Ref.{now}
 use Rattle.answer.specs.Settled.{SettlesBoth}
-use Rattle.answer.proofs.Settled.{settled, settled-too}
+use Rattle.answer.proofs.Settled.{settled}
 use Rattle.clerk.proofs
 
 apply-settled : SettlesBoth (λ l a e. now (e .0)) proofs.apply.Reads.Post
 apply-settled l a = settled _ _
-
-serve-settled : SettlesBoth (λ l a e. now (e .1 .0)) proofs.serve.Reads.Post
-serve-settled l a = settled-too _ _ _

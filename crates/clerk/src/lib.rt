@@ -1,95 +1,10 @@
-// The clerk: one record at the front of a job, read and done to a store.
-// `apply` takes any bytes and any store; `serve` is for a store that is known to be undamaged, and keeps it so.
+// The clerk: one record at the front of a job, read and done to a store. It takes any bytes and any store, and requires nothing.
+// What comes of a record is a definition of service/specs/Service.antt.
 use answer::Refusal;
-use book::Answer;
-use book::sound;
-use index::Index;
-use record::Call;
-use record::Told;
-use road::Source;
+pub use service::Deed;
+pub use service::Outcome;
 ghost use mathlib.Core.Path.{_≡_};
-ghost use mathlib.Core.Bool.{false};
-ghost use Prim.Native.Nat.{_≤_};
-ghost use lib.ListN.{length};
-ghost use Rattle.level.specs.Table.{table};
-ghost use Rattle.store.specs.Store.{damaged};
-ghost use Rattle.book.specs.History.{perform};
-ghost use Rattle.clerk.specs.Clerk.{callOf, slotIn, outcomeOf, doneTo};
-
-// What comes of a record: done, the two indices of the receiver in a slot (L_DEN, then L_Night), or a refusal.
-pub enum Outcome {
-    Done,
-    Levels(u16, Index, Index),
-    Refused(Refusal),
-}
-
-// The outcome, and how many bytes on the next record begins; 0 where the job cannot go on.
-pub struct Deed {
-    pub outcome: Outcome,
-    pub extent: usize,
-}
-
-// The slot of a call.
-fn slot(call: Call) -> u16
-    ensures { λ r. ⌜ r ≡ slotIn call ⌝ }
-{
-    match call {
-        Call::PlaceReceiver(slot, _) => slot,
-        Call::WithdrawReceiver(slot) => slot,
-        Call::PlaceSource(slot) => slot,
-        Call::WithdrawSource(slot) => slot,
-        Call::Ask(slot) => slot,
-    }
-}
-
-// An answer of the book with the slot that was asked.
-fn of_slot(slot: u16, answer: Answer) -> Outcome
-    ensures { λ r. ⌜ r ≡ outcomeOf slot answer ⌝ }
-{
-    match answer {
-        Answer::Done => Outcome::Done,
-        Answer::Levels(den, night) => Outcome::Levels(slot, den, night),
-        Answer::Refused(why) => Outcome::Refused(why),
-    }
-}
-
-// A call done to a store.
-fn perform(steps: &[u32; 1000], store: &mut [u8], call: Call, source: Source) -> Answer
-    requires { ⌜ (now steps ≡ table) × (damaged (now store) ≡ false) ⌝ }
-    ensures { λ r. ⌜ (r, now (store .exit)) ≡ perform (callOf call source) (now (store .entry)) ⌝ }
-{
-    match call {
-        Call::PlaceReceiver(slot, r) => sound::place_receiver(steps, store, slot, r),
-        Call::WithdrawReceiver(slot) => sound::withdraw_receiver(store, slot),
-        Call::PlaceSource(slot) => sound::place_source(steps, store, slot, source),
-        Call::WithdrawSource(slot) => sound::withdraw_source(steps, store, slot),
-        Call::Ask(slot) => sound::ask(steps, store, slot),
-    }
-}
-
-// Does the record at the front of a job to an undamaged store, which stays undamaged.
-pub fn serve(steps: &[u32; 1000], store: &mut [u8], job: &[u8]) -> Deed
-    requires { ⌜ (now steps ≡ table) × (damaged (now store) ≡ false) ⌝ }
-    ensures { λ r. ⌜ ((r, now (store .exit)) ≡ doneTo (now (job .entry)) (now (store .entry))) × (damaged (now (store .exit)) ≡ false) ⌝ }
-{
-    let extent = record::extent(job);
-    let reading = record::read_with(steps, job);
-    let told = reading.told;
-    let source = reading.source;
-    match told {
-        Told::Refused(why) => Deed {
-            outcome: Outcome::Refused(why),
-            extent,
-        },
-        Told::Call(call) => {
-            let answer = perform(steps, store, call, source);
-            Deed {
-                outcome: of_slot(slot(call), answer),
-                extent,
-            }
-        }
-    }
-}
+ghost use Rattle.service.specs.Service.{doneTo};
 
 // Does the record at the front of a job to a store.
 pub fn apply(store: &mut [u8], job: &[u8]) -> Deed
@@ -97,11 +12,11 @@ pub fn apply(store: &mut [u8], job: &[u8]) -> Deed
 {
     let steps = level::table::steps();
     if store::damaged(&steps, store) {
-        let extent = record::extent(job);
+        let extent = codec::extent(job);
         return Deed {
             outcome: Outcome::Refused(Refusal::Damaged),
             extent,
         };
     }
-    serve(&steps, store, job)
+    service::serve(&steps, store, job)
 }

@@ -11,13 +11,13 @@ use lib.ListN.{length, take, drop, length-append, length-drop}
 use lib.Seq.{take-nil, take-at, take-append-le, take-append-add, drop-at, drop-drop, length-take-le}
 use Rattle.layout.specs.Layout.{Bytes}
 use Rattle.layout.proofs.Numbers.{bytes-append, bytes-take, bytes-drop}
-use Rattle.record.specs.Kinds.{longest}
+use Rattle.codec.specs.Kinds.{longest}
 use Rattle.answer.specs.declared.Refusal.the-variants.{Damaged}
 use Rattle.store.specs.Store.{damaged, storeLength, clearedBytes}
 use Rattle.store.proofs.Laws.{cleared}
-use Rattle.book.specs.declared.Answer.{Answer}
-use Rattle.book.specs.declared.Answer.the-variants.{Done, Refused}
-use Rattle.book.specs.Calls.{clearStore}
+use Rattle.undamaged.specs.declared.Answer.{Answer}
+use Rattle.undamaged.specs.declared.Answer.the-variants.{Done, Refused}
+use Rattle.undamaged.specs.Calls.{clearStore}
 use Rattle.listing.specs.Listing.{lineRoom, endLine}
 use Rattle.machine.specs.declared.State.{State}
 use Rattle.machine.specs.declared.Progress.{Progress}

@@ -32,6 +32,11 @@ module _ {A : Type 0} where
   every p [] = true
   every p (a ∷ l) = p a && every p l
 
+  -- P holds of each
+  abbrev pub All : (A → Type 0) → List A → Type 0
+  All P [] = Unit {0}
+  All P (a ∷ l) = P a × All P l
+
   abbrev pub sumOf : (A → ℕ) → List A → ℕ
   sumOf f [] = 0
   sumOf f (a ∷ l) = f a + sumOf f l

@@ -9,8 +9,8 @@ use Rattle.answer.specs.declared.Refusal.{Refusal}
 use Rattle.answer.specs.Table.{numberOf}
 use Rattle.index.specs.declared.Index.{Index}
 use Rattle.index.specs.declared.Index.the-variants.{Quiet, Tenths}
-use Rattle.clerk.specs.declared.Outcome.{Outcome}
-use Rattle.clerk.specs.declared.Outcome.the-variants.{Done, Levels, Refused}
+use Rattle.service.specs.declared.Outcome.{Outcome}
+use Rattle.service.specs.declared.Outcome.the-variants.{Done, Levels, Refused}
 
 -- the last digit of n, from 0 (48) to 9 (57)
 abbrev pub digit : ℕ → ℕ

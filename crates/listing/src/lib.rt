@@ -1,8 +1,8 @@
 // The lines of the listing (document 01): an ask's two levels, a refusal's number, and the last line with the count.
 // A line is written at the front of the bytes that the caller lends; with less room than every line has nothing is written.
 use answer::Refusal;
-use clerk::Outcome;
 use index::Index;
+use service::Outcome;
 ghost use mathlib.Core.Path.{_≡_};
 ghost use mathlib.Core.List.{_∷_, _++_};
 ghost use Prim.Native.Nat.{_+_, _≤_};

@@ -9,7 +9,7 @@ use lib.ListN.{length, take, drop, length-append, length-drop, take-append-drop}
 use lib.Seq.{drop-at, drop-drop, length-take-le}
 use Rattle.layout.specs.Over.{over}
 use Rattle.store.specs.Store.{damaged}
-use Rattle.clerk.specs.Clerk.{doneTo}
+use Rattle.service.specs.Service.{doneTo}
 use Rattle.listing.specs.Listing.{lineOf}
 use Rattle.machine.specs.declared.State.{State}
 use Rattle.machine.specs.declared.Entry.{Entry}

@@ -10,11 +10,11 @@ use lib.Dec.{ltb, leb}
 use lib.ListN.{length, take, drop, length-append, length-drop}
 use lib.Seq.{take-append-seam, drop-drop, drop-append-le}
 use Rattle.layout.specs.Layout.{Bytes}
-use Rattle.record.specs.Kinds.{longest}
-use Rattle.clerk.specs.declared.Deed.{Deed}
-use Rattle.clerk.specs.Clerk.{doneTo}
-use Rattle.clerk.proofs.Laws.{goes-within}
-use Rattle.clerk.proofs.Own.{own-longest}
+use Rattle.codec.specs.Kinds.{longest}
+use Rattle.service.specs.declared.Deed.{Deed}
+use Rattle.service.specs.Service.{doneTo}
+use Rattle.service.proofs.Laws.{goes-within}
+use Rattle.service.proofs.Own.{own-longest}
 use Rattle.listing.specs.Listing.{lineRoom, lineOf}
 use Rattle.machine.specs.declared.State.{State}
 use Rattle.machine.specs.declared.Progress.{Progress}

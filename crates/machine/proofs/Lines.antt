@@ -13,10 +13,10 @@ use lib.ListN.{length, take, drop, getD, set, length-set, length-append, length-
 use lib.Seq.{take-all, take-at, take-suc, take-suc-set, drop-set-lt, drop-drop, length-take-le}
 use Rattle.layout.specs.Over.{over}
 use Rattle.store.specs.Store.{damaged}
-use Rattle.clerk.specs.declared.Outcome.{Outcome}
-use Rattle.clerk.specs.declared.Deed.{Deed}
-use Rattle.clerk.specs.Clerk.{doneTo}
-use Rattle.clerk.proofs.Laws.{goes-within}
+use Rattle.service.specs.declared.Outcome.{Outcome}
+use Rattle.service.specs.declared.Deed.{Deed}
+use Rattle.service.specs.Service.{doneTo}
+use Rattle.service.proofs.Laws.{goes-within}
 use Rattle.listing.specs.Listing.{lineRoom, put, lineOf}
 use Rattle.machine.specs.declared.Entry.{Entry}
 use Rattle.machine.specs.Inner.{TextPut, Entered, part}

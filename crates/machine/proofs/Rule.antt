@@ -6,9 +6,9 @@ use mathlib.Core.Bool.{Bool, true, false, cond}
 use mathlib.Core.List.{List, [], _∷_, _++_, append-assoc}
 use native.Mathlib.Omega.{arith}
 use lib.ListN.{length, drop, length-drop}
-use Rattle.clerk.specs.declared.Deed.{Deed}
-use Rattle.clerk.specs.Clerk.{doneTo}
-use Rattle.clerk.proofs.Own.{own}
+use Rattle.service.specs.declared.Deed.{Deed}
+use Rattle.service.specs.Service.{doneTo}
+use Rattle.service.proofs.Own.{own}
 use Rattle.listing.specs.Listing.{lineOf}
 use Rattle.machine.specs.declared.State.{State}
 use Rattle.machine.specs.Job.{Listing, before, ended, endOr, stopOr, listIn, listFrom, Rule}

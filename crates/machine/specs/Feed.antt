@@ -7,8 +7,8 @@ use mathlib.Core.List.{List, [], _++_}
 use lib.Dec.{leb, ltb}
 use lib.ListN.{length, take, drop}
 use Rattle.layout.specs.Layout.{Bytes}
-use Rattle.record.specs.Kinds.{longest}
-use Rattle.clerk.specs.Clerk.{doneTo}
+use Rattle.codec.specs.Kinds.{longest}
+use Rattle.service.specs.Service.{doneTo}
 use Rattle.listing.specs.Listing.{lineRoom, lineOf}
 use Rattle.machine.specs.declared.State.{State}
 use Rattle.machine.specs.declared.Progress.{Progress}

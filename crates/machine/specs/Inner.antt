@@ -7,7 +7,7 @@ use mathlib.Core.List.{List}
 use lib.ListN.{length, take, drop}
 use Rattle.layout.specs.Over.{over}
 use Rattle.store.specs.Store.{damaged}
-use Rattle.clerk.specs.declared.Deed.{Deed}
+use Rattle.service.specs.declared.Deed.{Deed}
 use Rattle.listing.specs.Listing.{lineOf}
 use Rattle.machine.specs.declared.Entry.{Entry}
 

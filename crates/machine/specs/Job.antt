@@ -5,9 +5,9 @@ use mathlib.Core.Path.{_≡_}
 use mathlib.Core.List.{List, [], _∷_, _++_}
 use lib.ListN.{length, drop}
 use Rattle.layout.specs.Layout.{Bytes}
-use Rattle.record.specs.Record.{lengthOf}
-use Rattle.clerk.specs.declared.Deed.{Deed}
-use Rattle.clerk.specs.Clerk.{doneTo}
+use Rattle.codec.specs.Record.{lengthOf}
+use Rattle.service.specs.declared.Deed.{Deed}
+use Rattle.service.specs.Service.{doneTo}
 use Rattle.listing.specs.Listing.{lineOf, endLine}
 
 -- a text, and a store

@@ -1,6 +1,6 @@
 // A job fed in pieces: its records are done one after the other to an undamaged store, and their lines handed out as far as there is room.
 // No input or output here: the bytes and the room are lent. Fed any pieces, the texts joined are the listing of the job (specs/Pieces.antt).
-use clerk::Outcome;
+use service::Outcome;
 ghost use mathlib.Core.Path.{_≡_};
 ghost use mathlib.Core.Bool.{false};
 ghost use mathlib.Core.List.{_++_};
@@ -8,7 +8,7 @@ ghost use Prim.Native.Nat.{_+_, _-_, _≤_, _<_};
 ghost use lib.ListN.{length, drop};
 ghost use Rattle.level.specs.Table.{table};
 ghost use Rattle.store.specs.Store.{damaged};
-ghost use Rattle.clerk.specs.Clerk.{doneTo};
+ghost use Rattle.service.specs.Service.{doneTo};
 ghost use Rattle.listing.specs.Listing.{lineRoom, lineOf};
 ghost use Rattle.machine.specs.Feed.{ready, feedOf, leaves};
 ghost use Rattle.machine.specs.Inner.{TextPut, Entered, part};
@@ -61,7 +61,7 @@ fn enter(
     requires { ⌜ (now steps ≡ table) × (damaged (now store) ≡ false) × (at ≤ length (now held)) × (place + lineRoom ≤ length (now out)) ⌝ }
     ensures { λ r. ⌜ Entered place n (drop at (now (held .entry))) (doneTo (drop at (now (held .entry))) (now (store .entry))) (now (out .entry)) r (now (store .exit)) (now (out .exit)) ⌝ }
 {
-    let deed = clerk::serve(steps, store, &held[at..]);
+    let deed = service::serve(steps, store, &held[at..]);
     let outcome = deed.outcome;
     let extent = deed.extent;
     let wrote = put_line(out, place, n, outcome);

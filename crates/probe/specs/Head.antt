@@ -2,13 +2,14 @@
 -- The last four have two bytes each, most significant first; 65535 stands for quiet, and for what two bytes do not hold.
 use Prim.Native.Nat.{ℕ, _/_, _%_, min}
 use mathlib.Core.List.{List, [], _∷_}
-use Rattle.answer.specs.Table.{numberOf, placeOf}
 use Rattle.index.specs.declared.Index.{Index}
 use Rattle.index.specs.declared.Index.the-variants.{Quiet, Tenths}
-use Rattle.record.specs.declared.Written.{Written}
-use Rattle.record.specs.declared.Written.the-variants as written
-use Rattle.clerk.specs.declared.Outcome.{Outcome}
-use Rattle.clerk.specs.declared.Outcome.the-variants.{Done, Levels, Refused}
+use Rattle.codec.specs.declared.Written.{Written}
+use Rattle.codec.specs.declared.Written.the-variants as written
+use Rattle.codec.specs.Record.{numberWritten, placeWritten}
+use Rattle.service.specs.declared.Outcome.{Outcome}
+use Rattle.service.specs.declared.Outcome.the-variants.{Done, Levels, Refused}
+use Rattle.service.specs.Service.{numberIn, placeIn}
 
 abbrev pub brief : ℕ → ℕ
 brief n = min n 65535
@@ -21,11 +22,29 @@ abbrev pub line : ℕ → ℕ → ℕ → ℕ → ℕ → ℕ → List ℕ
 line tag number place den night extent =
     tag ∷ number ∷ place / 256 ∷ place % 256 ∷ den / 256 ∷ den % 256 ∷ night / 256 ∷ night % 256 ∷ extent / 256 ∷ extent % 256 ∷ []
 
+-- of an outcome: its tag and its two levels, beside its number and place
+abbrev pub tagIn : Outcome → ℕ
+tagIn Done = 0
+tagIn (Levels slot den night) = 1
+tagIn (Refused why) = 2
+
+abbrev pub denIn : Outcome → ℕ
+denIn Done = 0
+denIn (Levels slot den night) = tenths den
+denIn (Refused why) = 0
+
+abbrev pub nightIn : Outcome → ℕ
+nightIn Done = 0
+nightIn (Levels slot den night) = tenths night
+nightIn (Refused why) = 0
+
 abbrev pub ofOutcome : Outcome → ℕ → List ℕ
-ofOutcome Done extent = line 0 0 0 0 0 extent
-ofOutcome (Levels slot den night) extent = line 1 0 0 (tenths den) (tenths night) extent
-ofOutcome (Refused why) extent = line 2 (numberOf why) (placeOf why) 0 0 extent
+ofOutcome o extent = line (tagIn o) (numberIn o) (placeIn o) (denIn o) (nightIn o) extent
+
+-- of writing
+abbrev pub tagWritten : Written → ℕ
+tagWritten written.Done = 0
+tagWritten (written.Refused why) = 2
 
 abbrev pub ofWritten : Written → ℕ → List ℕ
-ofWritten written.Done extent = line 0 0 0 0 0 extent
-ofWritten (written.Refused why) extent = line 2 (numberOf why) (placeOf why) 0 0 extent
+ofWritten w extent = line (tagWritten w) (numberWritten w) (placeWritten w) 0 0 extent

@@ -6,8 +6,8 @@ use lib.ListN.{getD}
 use Rattle.road.specs.declared.Receiver.{Receiver}
 use Rattle.road.specs.declared.Traffic.{Traffic}
 use Rattle.road.specs.declared.Source.{Source}
-use Rattle.record.specs.declared.Call.{Call}
-use Rattle.record.specs.declared.Call.the-variants.{PlaceReceiver, WithdrawReceiver, PlaceSource, WithdrawSource, Ask}
+use Rattle.codec.specs.declared.Call.{Call}
+use Rattle.codec.specs.declared.Call.the-variants.{PlaceReceiver, WithdrawReceiver, PlaceSource, WithdrawSource, Ask}
 
 abbrev pub one : List ℕ → ℕ → ℕ
 one s i = getD s i 0

@@ -1,8 +1,4 @@
--- Laws of records: the rows of the table, the cases of reader and writer, each kind, the round trips; and the figures.
-pub mod Rows
-pub mod Laws
-pub mod Calls
-pub mod Own
+-- What is promised of records, proved; and that their calls settle their outcomes.
 pub mod Trips
-pub mod Figures
+pub mod Numbers
 pub mod Settled

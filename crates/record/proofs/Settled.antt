@@ -1,4 +1,4 @@
--- Each public function of records settles its outcome: what is read, and what is written with the answer. One line for each.
+-- Each call of records settles its outcome: what is read, and what is written with the answer. One line for each.
 -- Assumes nothing.
 use denote.Ref.{now}
 use Rattle.answer.specs.Settled.{Settles, SettlesResult, SettlesBoth}
@@ -8,17 +8,11 @@ use Rattle.record.proofs
 extent-settled : SettlesResult proofs.extent.Reads.Post
 extent-settled l a = settled _ _
 
-read-with-settled : SettlesResult proofs.read_with.Reads.Post
-read-with-settled l a = settled _ _
-
 read-settled : SettlesResult proofs.read.Reads.Post
 read-settled l a = settled _ _
 
 part-settled : Settles (λ l a r e. now r) proofs.part.Reads.Post
 part-settled l a = settled _ _
-
-write-with-settled : SettlesBoth (λ l a e. now (e .1 .1 .1 .0)) proofs.write_with.Reads.Post
-write-with-settled l a = settled _ _
 
 write-settled : SettlesBoth (λ l a e. now (e .1 .1 .0)) proofs.write.Reads.Post
 write-settled l a = settled _ _

@@ -1,4 +1,3 @@
--- What a record is: its kinds, what reading and writing it give, and what the inner functions say.
-pub mod Kinds
-pub mod Record
-pub mod Inner
+-- What is promised of records beside the contracts: the round trips, the part, and the numbers that a caller may get back.
+pub mod Trips
+pub mod Numbers

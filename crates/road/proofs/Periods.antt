@@ -1,10 +1,14 @@
 -- A source of the code has three periods of traffic; in antt they are a list, and one of three is its three entries.
--- Assumes nothing.
+-- `owned-periods` is how a proof learns it of an argument. Assumes nothing.
 use Prim.Native.Nat.{ℕ}
-use mathlib.Core.Path.{_≡_, refl, ap}
+use mathlib.Core.Path.{_≡_, refl, sym, ap, _∙_}
 use mathlib.Core.List.{List, [], _∷_}
 use native.Mathlib.Omega.{arith}
-use lib.ListN.{length, getD}
+use lib.ListN.{length, getD, length-map}
+use mir.Val.{Val}
+use denote.Laws.{Is}
+use denote.Struct.Declared.{row}
+use Rattle.road.proofs.Source.{the-type}
 use Rattle.road.specs.declared.Traffic.{Traffic}
 use Rattle.road.specs.declared.Source.{Source}
 use Rattle.road.specs.Term.{none}
@@ -37,3 +41,7 @@ with s t =
 
 pub periods-again : (s : Source) → length (s .traffic) ≡ 3 → with s (getD (s .traffic) 0 none ∷ getD (s .traffic) 1 none ∷ getD (s .traffic) 2 none ∷ []) ≡ s
 periods-again s h = ap (with s) (three (s .traffic) h)
+
+-- what owning a source tells of it
+pub owned-periods : (s : Source) (vs : List Val) → Is (row the-type) s vs → length (s .traffic) ≡ 3
+owned-periods s vs p = sym (length-map (s .traffic) _) ∙ p .1 .1 .1 .1 .1 .1 .1 .1 .1 .1 .1 .1 .1 .1 .0 .1 .0 .1

@@ -1,8 +1,8 @@
 -- `ask` looks for damage first, then answers as the inner call does. Assumes nothing.
-use mathlib.Core.Path.{_≡_, refl, sym, ap, ap₂, _∙_}
+use mathlib.Core.Path.{sym, _∙_}
 use borrow.Author.Needs.{needs}
-use Rattle.book.specs.Calls.{askReceiver}
-use Rattle.book.proofs.Entries.{on-damaged, on-sound}
+use Rattle.undamaged.specs.Calls.{askReceiver}
+use Rattle.undamaged.proofs.Entries.{on-damaged, on-sound}
 use Rattle.book.proofs.ask.Statement.{statement}
 use Rattle.book.proofs.ask.Tie as tie
 

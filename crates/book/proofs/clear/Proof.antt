@@ -1,14 +1,13 @@
 -- `clear` wipes a store of the right length and refuses any other. Assumes nothing.
-use mathlib.Core.Path.{_≡_, refl, sym, ap, ap₂, _∙_}
-use Prim.Native.Nat.{ℕ, _+_, _-_, _*_, _/_, _≤_, _<_}
+use mathlib.Core.Path.{ap}
+use Prim.Native.Nat.{ℕ, _-_}
 use borrow.Author.Needs.{needs}
-use mathlib.Core.List.{List, [], _∷_, map}
+use mathlib.Core.List.{List}
 use lib.ListN.{length}
 use borrow.Author.Tests.{eq-eqb, ne-eqb}
 use Rattle.store.specs.Store.{storeLength}
-use Rattle.book.specs.declared.Answer.{Answer}
-use Rattle.book.specs.declared.Answer.the-variants.{Done}
-use Rattle.book.specs.Calls.{clearStore}
+use Rattle.undamaged.specs.declared.Answer.the-variants.{Done}
+use Rattle.undamaged.specs.Calls.{clearStore}
 use Rattle.book.proofs.clear.Statement.{statement}
 use Rattle.book.proofs.clear.Tie as tie
 

@@ -1,8 +1,8 @@
 -- `withdraw_source` looks for damage first, then answers as the inner call does. Assumes nothing.
-use mathlib.Core.Path.{_≡_, refl, sym, ap, ap₂, _∙_}
+use mathlib.Core.Path.{sym, _∙_}
 use borrow.Author.Needs.{needs}
-use Rattle.book.specs.Calls.{withdrawSource}
-use Rattle.book.proofs.Entries.{on-damaged, on-sound}
+use Rattle.undamaged.specs.Calls.{withdrawSource}
+use Rattle.undamaged.proofs.Entries.{on-damaged, on-sound}
 use Rattle.book.proofs.withdraw_source.Statement.{statement}
 use Rattle.book.proofs.withdraw_source.Tie as tie
 
@@ -30,7 +30,7 @@ returns-2 : tie.Need-returns-2
 returns-2 c =
     let d = c .before .before .before .before .before .before in
     let start = d .before .before .before .before .before in
-    c .before .before .withdraw-source .ensures
+    c .before .before .withdraw-source .ensures .0
     ∙ on-sound (withdrawSource (start .args .slot)) (start .args .store .now) (sym (d .damaged .ensures) ∙ c .before .before .before .before .before .if1 .left)
 
 pub withdraw-source-spec : {M : Type 1} → statement M

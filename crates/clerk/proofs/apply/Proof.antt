@@ -1,12 +1,12 @@
--- `apply` looks for damage before all else, then does as the inner one. Assumes nothing.
-use mathlib.Core.Path.{_≡_, sym, ap, ap₂, _∙_}
+-- `apply` looks for damage before all else, then does as the service. Assumes nothing.
+use mathlib.Core.Path.{sym, ap, _∙_}
 use Prim.Native.Nat.{ℕ}
 use Rattle.answer.specs.declared.Refusal.the-variants.{Damaged}
-use Rattle.record.specs.declared.Told.the-variants as told
-use Rattle.book.specs.declared.Answer.the-variants as answer
-use Rattle.clerk.specs.Clerk.{deed}
+use Rattle.codec.specs.declared.Told.the-variants as told
+use Rattle.undamaged.specs.declared.Answer.the-variants as answer
+use Rattle.service.specs.Service.{deed}
 use borrow.Author.Needs.{needs}
-use Rattle.clerk.proofs.Laws.{on-damage}
+use Rattle.service.proofs.Laws.{on-damage}
 use Rattle.clerk.proofs.apply.Statement.{statement}
 use Rattle.clerk.proofs.apply.Tie as tie
 

@@ -7,7 +7,7 @@ use Prim.Native.Nat.{ℕ}
 use lib.Dec.{ltb}
 use lib.ListN.{length}
 use borrow.Author.Needs.{needs}
-use Rattle.clerk.specs.declared.Outcome.{Outcome}
+use Rattle.service.specs.declared.Outcome.{Outcome}
 use Rattle.listing.specs.Listing.{lineOf, put}
 use Rattle.listing.proofs.line.Statement.{statement}
 use Rattle.listing.proofs.line.Tie as tie

@@ -1,4 +1,4 @@
--- `enter` does one record with the clerk and puts its line. Assumes nothing.
+-- `enter` does one record and puts its line. Assumes nothing.
 use Prim.Native.Nat.{ℕ, _-_}
 use native.Mathlib.Omega.{arith}
 use mathlib.Core.List.{List}

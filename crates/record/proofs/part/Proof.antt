@@ -1,63 +1,20 @@
--- `part` gives the bytes of a record that is read, and none of one that is refused.
+-- `part` is the front of the job, as many bytes as `part_size` says.
 -- Assumes nothing.
-use Prim.Native.Nat.{ℕ, _≤_}
-use mathlib.Core.Path.{sym, ap, _∙_}
-use native.Mathlib.Omega.{arith}
+use mathlib.Core.Path.{sym}
 use denote.Ref.{now}
-use lib.ListN.{length, take}
 use lib.Seq.{length-take-le}
-use Rattle.record.specs.declared.Told.{Told}
-use Rattle.record.specs.declared.Reading.{Reading}
-use Rattle.record.specs.Record.{partBy, partOf}
-use Rattle.record.proofs.Laws.{extent-le}
 use borrow.Author.Needs.{needs}
 use Rattle.record.proofs.part.Statement.{statement}
 use Rattle.record.proofs.part.Tie as tie
 
-read-requires : tie.Need-read-requires
-read-requires c κs = search needs
-
-enum-told : tie.Need-enum-told
-enum-told c = search needs
-
-extent-requires : tie.Need-extent-requires
-extent-requires c κs = search needs
+part-size-requires : tie.Need-part-size-requires
+part-size-requires c κs = search needs
 
 slice-aggregate-result : tie.Need-slice-aggregate-result
-slice-aggregate-result c =
-    let s = now (c .before .before .before .before .before .before .args .job) in
-    let n : c .before .extent .result ≤ length s = omega (arith, c .before .extent .ensures, extent-le s) in
-    sym (length-take-le (c .before .extent .result) s n)
-
-enum-told-2 : tie.Need-enum-told-2
-enum-told-2 c = search needs
-
-slice-aggregate-result-2 : tie.Need-slice-aggregate-result-2
-slice-aggregate-result-2 c = search needs
+slice-aggregate-result c = let n = c .before .part-size in sym (length-take-le (n .result) (now (c .before .before .before .args .job)) (n .ensures .0))
 
 returns : tie.Need-returns
-unfolding partOf
-returns c =
-    let s = now (c .before .before .before .before .before .before .args .job) in
-    let t = ap (λ (r : Reading). r .told) (sym (c .before .before .before .before .read .ensures)) ∙ c .before .before .enum-told .given .1 in
-    ap (λ (n : ℕ). take n s) (c .before .extent .ensures) ∙ ap (λ (x : Told). partBy x s) (sym t)
-
-returns-2 : tie.Need-returns-2
-unfolding partOf
-returns-2 c =
-    let s = now (c .before .before .before .before .before .args .job) in
-    let t = ap (λ (r : Reading). r .told) (sym (c .before .before .before .read .ensures)) ∙ c .before .enum-told2 .given .1 in
-    ap (λ (x : Told). partBy x s) (sym t)
+returns c = search needs
 
 pub part-spec : {M : Type 1} → statement M
-part-spec =
-    tie.close
-    (tie.spec
-    read-requires
-    enum-told
-    extent-requires
-    slice-aggregate-result
-    enum-told-2
-    slice-aggregate-result-2
-    returns
-    returns-2)
+part-spec = tie.close (tie.spec part-size-requires slice-aggregate-result returns)

@@ -3,7 +3,7 @@
 use Prim.Native.Nat.{ℕ}
 use mathlib.Core.Path.{sym, ap, _∙_}
 use denote.Ref.{now}
-use Rattle.record.specs.declared.Call.the-variants.{PlaceReceiver, WithdrawReceiver, PlaceSource, WithdrawSource, Ask}
+use Rattle.codec.specs.declared.Call.the-variants.{PlaceReceiver, WithdrawReceiver, PlaceSource, WithdrawSource, Ask}
 use Rattle.probe.specs.Raw.{one, two, receiverAt, callBy}
 use Rattle.probe.proofs.Laws.{ask-else}
 use borrow.Author.Needs.{needs}

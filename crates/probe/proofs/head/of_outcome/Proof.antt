@@ -1,7 +1,7 @@
 -- `of_outcome` goes case by case.
 -- Assumes nothing.
 use mathlib.Core.Path.{sym, ap, _∙_}
-use Rattle.clerk.specs.declared.Outcome.{Outcome}
+use Rattle.service.specs.declared.Outcome.{Outcome}
 use Rattle.probe.specs.Head.{ofOutcome}
 use borrow.Author.Needs.{needs}
 use Rattle.probe.proofs.head.of_outcome.Statement.{statement}

@@ -1,0 +1,215 @@
+-- What the reader and the writer come to, case by case, over plain values; and the laws of fields with zeros after them.
+-- Assumes nothing.
+use Prim.Native.Nat.{ℕ, zero, suc, _+_, _^_, _≤_, _<_}
+use mathlib.Core.Path.{_≡_, refl, sym, ap, _∙_}
+use mathlib.Core.Bool.{Bool, true, false, cond, _||_}
+use mathlib.Core.List.{List, [], _∷_, _++_, append-assoc}
+use native.Mathlib.Nat.{not-suc-le-zero, le-of-suc-le-suc, lt-of-lt-of-le}
+use native.Mathlib.Numerals.{add-one}
+use native.Mathlib.Omega.{arith}
+use borrow.Author.Tests.{le-leb, lt-leb, leb-true, ltb-false, lt-ltb, le-ltb}
+use lib.Dec.{leb, ltb, eqb}
+use lib.ListN.{length, getD, take, drop, replicate, set}
+use lib.Seq.{getD-drop, take-at, drop-cons, set-at, take-suc, length-take-le, take-length}
+use lib.Pow.{pow-mono}
+use Rattle.layout.specs.Layout.{size, fields, Within, bits, num}
+use Rattle.layout.proofs.Laws.{length-fields, fields-within, length-packed}
+use Rattle.answer.specs.declared.Refusal.{Refusal}
+use Rattle.answer.specs.declared.Refusal.the-variants.{CutShort, UnknownKind, Leftover}
+use Rattle.road.specs.declared.Source.{Source}
+use Rattle.road.specs.declared.Verdict.{Verdict}
+use Rattle.road.specs.declared.Verdict.the-variants as verdict
+use Rattle.codec.specs.declared.Call.{Call}
+use Rattle.codec.specs.declared.Call.the-variants.{Ask}
+use Rattle.codec.specs.declared.Told.the-variants as told
+use Rattle.codec.specs.declared.Written.{Written}
+use Rattle.codec.specs.declared.Written.the-variants as written
+use Rattle.codec.specs.Kinds.{at, blank, kindAt, layoutOf, leftoverOf, verdictOf, numberOf, fieldsOf}
+use Rattle.codec.specs.Record.{kindOf, lengthOf, valuesOf, cutShort, unknownKind, leftoverSet, reading, refused, judged, heardBy, heard, readOf, extentOf, recordOf, writtenBy, writeOf}
+use Rattle.codec.specs.Inner.{filled, firstOf}
+use Rattle.codec.proofs.Rows.{row-begun}
+
+-- ---- fields with zeros after them
+
+zeros : (m i : ℕ) → getD {A = ℕ} (replicate m 0) i 0 ≡ 0
+zeros zero i = refl
+zeros (suc m) zero = refl
+zeros (suc m) (suc i) = zeros m i
+
+over-zeros : (v z : List ℕ) (i : ℕ) → ((j : ℕ) → getD z j 0 ≡ 0) → getD (v ++ z) i 0 ≡ getD v i 0
+over-zeros [] z i h = h i
+over-zeros (x ∷ v) z zero h = refl
+over-zeros (x ∷ v) z (suc i) h = over-zeros v z i h
+
+-- each field is still where it was
+pub at-filled : (v : List ℕ) → at (filled v) ≡ at v
+unfolding filled
+at-filled v = λ i j. over-zeros v (drop (length v) (replicate 25 0)) j (λ n. getD-drop (length v) (replicate 25 0) n 0 ∙ zeros 25 (length v + n)) i
+
+pub first-filled : (k : ℕ) (v : List ℕ) → length v ≡ length (layoutOf k) → firstOf k (filled v) ≡ v
+unfolding filled
+first-filled k v e = take-at v (drop (length v) (replicate 25 0)) (length (layoutOf k)) e
+
+pub values-within : (k : ℕ) (s : List ℕ) → Within (layoutOf k) (firstOf k (filled (fields (layoutOf k) s)))
+values-within k s = rw (first-filled k (fields (layoutOf k) s) (length-fields (layoutOf k) s)) (fields-within (layoutOf k) s)
+
+-- one field more of those that are copied over zeros
+pub copied : (f z : List ℕ) (i : ℕ) → i < length f → i < length z
+    → set (take i f ++ drop i z) i (at f i) ≡ take (suc i) f ++ drop (suc i) z
+copied f z i h l =
+    ap (λ (x : List ℕ). set (take i f ++ x) i (at f i)) (drop-cons z i 0 l)
+    ∙ set-at (take i f) (at z i) (drop (suc i) z) (at f i) i (length-take-le i f (omega arith))
+    ∙ sym (append-assoc (take i f) (at f i ∷ []) (drop (suc i) z))
+    ∙ ap (λ (x : List ℕ). x ++ drop (suc i) z) (sym (take-suc f i 0 h))
+
+pub joined-more : (a b : ℕ) (f z v : List ℕ) (i : ℕ) → i < length f → i < length z → v ≡ a ∷ b ∷ (take i f ++ drop i z)
+    → set v (i + 2) (at f i) ≡ a ∷ b ∷ (take (i + 1) f ++ drop (i + 1) z)
+joined-more a b f z v i h l e =
+    let p : i + 2 ≡ suc (suc i) = omega arith in
+    let q : suc i ≡ i + 1 = omega arith in
+    (λ j. set (e j) (p j) (at f i)) ∙ ap (λ (x : List ℕ). a ∷ b ∷ x) (copied f z i h l) ∙ (λ j. a ∷ b ∷ (take (q j) f ++ drop (q j) z))
+
+pub joined-all : (a b : ℕ) (f v : List ℕ) (i : ℕ) → i ≡ length f → v ≡ a ∷ b ∷ (take i f ++ drop i (replicate 23 0)) → v ≡ filled (a ∷ b ∷ f)
+unfolding filled
+joined-all a b f v i e h =
+    h ∙ (λ j. a ∷ b ∷ (take (e j) f ++ drop (e j) (replicate 23 0)))
+    ∙ ap (λ (x : List ℕ). a ∷ b ∷ (x ++ drop (length f) (replicate 23 0))) (take-length f)
+
+-- a field is below 2 ^ its width
+pub field-fits : (ws v : List ℕ) (i : ℕ) → Within ws (take (length ws) v) → i < length ws → at v i < 2 ^ at ws i
+field-fits [] v i w h = absurd (not-suc-le-zero h)
+field-fits (n ∷ ws) [] i w h = absurd w
+field-fits (n ∷ ws) (x ∷ v) zero w h = w .0
+field-fits (n ∷ ws) (x ∷ v) (suc i) w h = field-fits ws v i (w .1) (le-of-suc-le-suc h)
+
+-- and so a slot fits sixteen bits
+pub slot-fits : (k : ℕ) (v : List ℕ) → 0 < size (layoutOf k) → Within (layoutOf k) (firstOf k v) → at v 1 < 65536
+slot-fits k v h w =
+    let b = row-begun k h in
+    lt-of-lt-of-le (field-fits (layoutOf k) v 1 w (b .two)) (pow-mono {i = at (layoutOf k) 1} {j = 16} (b .slot))
+
+-- ---- the kind and the extent
+
+pub no-kind : (s : List ℕ) → length s ≡ 0 → 0 ≡ kindOf s
+unfolding bits num
+no-kind [] h = refl
+no-kind (x ∷ s) h = absurd (omega arith)
+
+pub extent-whole : (s : List ℕ) → lengthOf s ≤ length s → lengthOf s ≡ extentOf s
+unfolding extentOf
+extent-whole s h = rw (le-leb (lengthOf s) (length s) h) refl
+
+pub extent-none : (s : List ℕ) → length s < lengthOf s → 0 ≡ extentOf s
+unfolding extentOf
+extent-none s h = rw (lt-leb (lengthOf s) (length s) h) refl
+
+pub extent-le : (s : List ℕ) → extentOf s ≤ length s
+unfolding extentOf
+extent-le s = go (leb (lengthOf s) (length s)) refl
+  where
+    go : (b : Bool) → leb (lengthOf s) (length s) ≡ b → cond b (lengthOf s) 0 ≤ length s
+    go true e = leb-true (lengthOf s) (length s) e
+    go false e = omega arith
+
+-- ---- what fields tell
+
+module _ (k : ℕ) (v : List ℕ) (call : Call) (source : Source) (e : call ≡ kindAt k .call (at v)) (f : source ≡ kindAt k .source (at v)) where
+  heard-by : heardBy call source ≡ heard k v
+  heard-by = λ i. heardBy (e i) (f i)
+
+  pub heard-refused : (why : Refusal) → verdictOf call source ≡ verdict.Refused why → refused why ≡ heard k v
+  heard-refused why h = sym (ap (λ (x : Verdict). judged x call source) h) ∙ heard-by
+
+  pub heard-allowed : verdictOf call source ≡ verdict.Allowed → reading (told.Call call) source ≡ heard k v
+  heard-allowed h = sym (ap (λ (x : Verdict). judged x call source) h) ∙ heard-by
+
+pub heard-filled : (k : ℕ) (v : List ℕ) → heard k (filled v) ≡ heard k v
+heard-filled k v = λ i. heardBy (kindAt k .call (at-filled v i)) (kindAt k .source (at-filled v i))
+
+-- ---- reading
+
+-- a record that is not cut short has its bytes
+pub uncut : (s : List ℕ) → cutShort s ≡ false → lengthOf s ≤ length s
+uncut s h = ltb-false (length s) (lengthOf s) (second (eqb (length s) 0) (ltb (length s) (lengthOf s)) h)
+  where
+    second : (a b : Bool) → a || b ≡ false → b ≡ false
+    second true b e = let z : _≡_ {A = ℕ} 0 1 = cc in absurd (omega arith)
+    second false b e = e
+
+pub leftover-at : (s v : List ℕ) (k n : ℕ) → k ≡ kindOf s → v ≡ filled (fields (layoutOf k) s) → n ≡ kindAt k .fields
+    → at v (n + 1) ≡ leftoverOf (kindOf s) (valuesOf s)
+leftover-at s v k n e f g =
+    rw add-one
+    ((λ i. at (f i) (suc (g i))) ∙ (λ i. at-filled (fields (layoutOf k) s) i (suc (kindAt k .fields)))
+    ∙ ap (λ (j : ℕ). leftoverOf j (fields (layoutOf j) s)) e)
+
+module _ (s : List ℕ) where
+  pub read-cut : cutShort s ≡ true → refused CutShort ≡ readOf s
+  unfolding readOf
+  read-cut a = rw a refl
+
+  module _ (a : cutShort s ≡ false) where
+    pub read-unknown : unknownKind s ≡ true → refused UnknownKind ≡ readOf s
+    unfolding readOf
+    read-unknown b = rw (a, b) refl
+
+    module _ (b : unknownKind s ≡ false) where
+      pub read-leftover : leftoverSet s ≡ true → refused Leftover ≡ readOf s
+      unfolding readOf
+      read-leftover d = rw (a, b, d) refl
+
+      pub read-heard : leftoverSet s ≡ false → heard (kindOf s) (valuesOf s) ≡ readOf s
+      unfolding readOf
+      read-heard d = rw (a, b, d) refl
+
+-- ---- writing
+
+module _ (call : Call) (source : Source) (out : List ℕ) where
+  pub write-refused : (why : Refusal) → verdictOf call source ≡ verdict.Refused why
+      → _≡_ {A = Written × List ℕ} (written.Refused why, out) (writeOf call source out)
+  unfolding writeOf
+  write-refused why h = sym (ap (λ (v : Verdict). writtenBy v (recordOf call source) out) h)
+
+  record-length : length (recordOf call source) ≡ size (layoutOf (numberOf call))
+  unfolding recordOf
+  record-length = length-packed (layoutOf (numberOf call)) (fieldsOf call source)
+
+  module _ (h : verdictOf call source ≡ verdict.Allowed) where
+    pub write-short : length out < size (layoutOf (numberOf call))
+        → _≡_ {A = Written × List ℕ} (written.Refused CutShort, out) (writeOf call source out)
+    unfolding writeOf
+    write-short l =
+        let t : length out < length (recordOf call source) = omega (arith, record-length) in
+        let e : ltb (length out) (length (recordOf call source)) ≡ true = lt-ltb (length out) (length (recordOf call source)) t in
+        sym (ap (λ (v : Verdict). writtenBy v (recordOf call source) out) h ∙ rw e refl)
+
+    pub write-done : size (layoutOf (numberOf call)) ≤ length out
+        → _≡_ {A = Written × List ℕ} (written.Done, recordOf call source ++ drop (size (layoutOf (numberOf call))) out) (writeOf call source out)
+    unfolding writeOf
+    write-done l =
+        let t : length (recordOf call source) ≤ length out = omega (arith, record-length) in
+        let e : ltb (length out) (length (recordOf call source)) ≡ false = le-ltb (length out) (length (recordOf call source)) t in
+        ap (λ (n : ℕ). (written.Done, recordOf call source ++ drop n out)) (sym record-length)
+        ∙ sym (ap (λ (v : Verdict). writtenBy v (recordOf call source) out) h ∙ rw e refl)
+
+-- ---- the kinds that the code does not name
+
+pub ask-else : (k : ℕ) (field : ℕ → ℕ) → (k ≡ 1 → ⊥) → (k ≡ 2 → ⊥) → (k ≡ 3 → ⊥) → (k ≡ 4 → ⊥) → kindAt k .call field ≡ Ask (field 1)
+unfolding kindAt
+ask-else zero field a b c d = refl
+ask-else (suc zero) field a b c d = absurd (a refl)
+ask-else (suc (suc zero)) field a b c d = absurd (b refl)
+ask-else (suc (suc (suc zero))) field a b c d = absurd (c refl)
+ask-else (suc (suc (suc (suc zero)))) field a b c d = absurd (d refl)
+ask-else (suc (suc (suc (suc (suc zero))))) field a b c d = refl
+ask-else (suc (suc (suc (suc (suc (suc k)))))) field a b c d = refl
+
+pub blank-else : (k : ℕ) (field : ℕ → ℕ) → (k ≡ 3 → ⊥) → kindAt k .source field ≡ blank
+unfolding kindAt
+blank-else zero field a = refl
+blank-else (suc zero) field a = refl
+blank-else (suc (suc zero)) field a = refl
+blank-else (suc (suc (suc zero))) field a = absurd (a refl)
+blank-else (suc (suc (suc (suc zero)))) field a = refl
+blank-else (suc (suc (suc (suc (suc zero))))) field a = refl
+blank-else (suc (suc (suc (suc (suc (suc k)))))) field a = refl

@@ -1,0 +1,122 @@
+-- `fields_of` joins the fields of each call.
+-- Assumes nothing.
+use Prim.Native.Nat.{ℕ}
+use mathlib.Core.Path.{sym, ap, _∙_}
+use mathlib.Core.List.{List, _∷_}
+use Rattle.codec.specs.declared.Call.{Call}
+use Rattle.codec.specs.Kinds.{fieldsOf}
+use Rattle.codec.specs.Inner.{filled}
+use borrow.Author.Needs.{needs}
+use Rattle.codec.proofs.kinds.fields_of.Statement.{statement}
+use Rattle.codec.proofs.kinds.fields_of.Tie as tie
+
+enum-known-call : tie.Need-enum-known-call
+enum-known-call c = search needs
+
+cast-t13 : tie.Need-cast-t13
+cast-t13 c = search needs
+
+cast-t14 : tie.Need-cast-t14
+cast-t14 c = search needs
+
+cast-t15 : tie.Need-cast-t15
+cast-t15 c = search needs
+
+slice-aggregate-join : tie.Need-slice-aggregate-join
+slice-aggregate-join c = search needs
+
+join-requires : tie.Need-join-requires
+join-requires c κs = search needs
+
+enum-known-call-2 : tie.Need-enum-known-call-2
+enum-known-call-2 c = search needs
+
+slice-aggregate-join-2 : tie.Need-slice-aggregate-join-2
+slice-aggregate-join-2 c = search needs
+
+join-requires-2 : tie.Need-join-requires-2
+join-requires-2 c κs = search needs
+
+enum-known-call-3 : tie.Need-enum-known-call-3
+enum-known-call-3 c = search needs
+
+source-fields-requires : tie.Need-source-fields-requires
+source-fields-requires c κs = search needs
+
+slice-aggregate-join-3 : tie.Need-slice-aggregate-join-3
+slice-aggregate-join-3 c = search needs
+
+join-requires-3 : tie.Need-join-requires-3
+join-requires-3 c κs = search needs
+
+enum-known-call-4 : tie.Need-enum-known-call-4
+enum-known-call-4 c = search needs
+
+slice-aggregate-join-4 : tie.Need-slice-aggregate-join-4
+slice-aggregate-join-4 c = search needs
+
+join-requires-4 : tie.Need-join-requires-4
+join-requires-4 c κs = search needs
+
+enum-known-call-5 : tie.Need-enum-known-call-5
+enum-known-call-5 c = search needs
+
+slice-aggregate-join-5 : tie.Need-slice-aggregate-join-5
+slice-aggregate-join-5 c = search needs
+
+join-requires-5 : tie.Need-join-requires-5
+join-requires-5 c κs = search needs
+
+returns : tie.Need-returns
+returns c =
+    let a = c .before .before .before .before .before .before .before .before .args in
+    c .join .ensures ∙ ap (λ (x : Call). filled (fieldsOf x (a .source))) (sym (c .before .before .before .before .before .before .call .given .1))
+
+returns-2 : tie.Need-returns-2
+returns-2 c =
+    let a = c .before .before .before .before .before .args in
+    c .join2 .ensures ∙ ap (λ (x : Call). filled (fieldsOf x (a .source))) (sym (c .before .before .before .call2 .given .1))
+
+returns-3 : tie.Need-returns-3
+returns-3 c =
+    let a = c .before .before .before .before .before .before .args in
+    c .join3 .ensures ∙ ap (λ (l : List ℕ). filled (3 ∷ c .before .before .before .before .call3 .given .0 .0 ∷ l)) (c .before .before .source-fields .ensures) ∙ ap (λ (x : Call). filled (fieldsOf x (a .source))) (sym (c .before .before .before .before .call3 .given .1))
+
+returns-4 : tie.Need-returns-4
+returns-4 c =
+    let a = c .before .before .before .before .before .args in
+    c .join4 .ensures ∙ ap (λ (x : Call). filled (fieldsOf x (a .source))) (sym (c .before .before .before .call4 .given .1))
+
+returns-5 : tie.Need-returns-5
+returns-5 c =
+    let a = c .before .before .before .before .before .args in
+    c .join5 .ensures ∙ ap (λ (x : Call). filled (fieldsOf x (a .source))) (sym (c .before .before .before .call5 .given .1))
+
+pub fields-of-spec : {M : Type 1} → statement M
+fields-of-spec =
+    tie.close
+    (tie.spec
+    enum-known-call
+    cast-t13
+    cast-t14
+    cast-t15
+    slice-aggregate-join
+    join-requires
+    enum-known-call-2
+    slice-aggregate-join-2
+    join-requires-2
+    enum-known-call-3
+    source-fields-requires
+    slice-aggregate-join-3
+    join-requires-3
+    enum-known-call-4
+    slice-aggregate-join-4
+    join-requires-4
+    enum-known-call-5
+    slice-aggregate-join-5
+    join-requires-5
+    returns
+    returns-2
+    returns-3
+    returns-4
+    returns-5)

@@ -1,0 +1,94 @@
+-- `verdict` judges the slot of a call, then what else it has.
+-- Assumes nothing.
+use mathlib.Core.Path.{sym, ap, _∙_}
+use Rattle.road.specs.Judge.{slotVerdict, lastSource, lastReceiver}
+use Rattle.codec.specs.declared.Call.{Call}
+use Rattle.codec.specs.Kinds.{verdictOf}
+use borrow.Author.Needs.{needs}
+use Rattle.codec.proofs.kinds.verdict.Statement.{statement}
+use Rattle.codec.proofs.kinds.verdict.Tie as tie
+
+enum-known-call : tie.Need-enum-known-call
+enum-known-call c = search needs
+
+judge-receiver-requires : tie.Need-judge-receiver-requires
+judge-receiver-requires c κs = search needs
+
+judge-slot-requires : tie.Need-judge-slot-requires
+judge-slot-requires c κs = search needs
+
+enum-known-call-2 : tie.Need-enum-known-call-2
+enum-known-call-2 c = search needs
+
+judge-slot-requires-2 : tie.Need-judge-slot-requires-2
+judge-slot-requires-2 c κs = search needs
+
+enum-known-call-3 : tie.Need-enum-known-call-3
+enum-known-call-3 c = search needs
+
+judge-source-requires : tie.Need-judge-source-requires
+judge-source-requires c κs = search needs
+
+judge-slot-requires-3 : tie.Need-judge-slot-requires-3
+judge-slot-requires-3 c κs = search needs
+
+enum-known-call-4 : tie.Need-enum-known-call-4
+enum-known-call-4 c = search needs
+
+judge-slot-requires-4 : tie.Need-judge-slot-requires-4
+judge-slot-requires-4 c κs = search needs
+
+enum-known-call-5 : tie.Need-enum-known-call-5
+enum-known-call-5 c = search needs
+
+judge-slot-requires-5 : tie.Need-judge-slot-requires-5
+judge-slot-requires-5 c κs = search needs
+
+returns : tie.Need-returns
+unfolding verdictOf
+returns c =
+    c .judge-slot .ensures ∙ ap (slotVerdict lastReceiver (c .before .before .before .call .given .0 .0)) (c .before .judge-receiver .ensures)
+    ∙ ap (λ (x : Call). verdictOf x (c .before .before .before .before .before .args .source)) (sym (c .before .before .before .call .given .1))
+
+returns-2 : tie.Need-returns-2
+unfolding verdictOf
+returns-2 c =
+    c .judge-slot2 .ensures ∙ ap (λ (x : Call). verdictOf x (c .before .before .before .before .args .source)) (sym (c .before .before .call2 .given .1))
+
+returns-3 : tie.Need-returns-3
+unfolding verdictOf
+returns-3 c =
+    c .judge-slot3 .ensures ∙ ap (slotVerdict lastSource (c .before .before .before .call3 .given .0 .0)) (c .before .judge-source .ensures)
+    ∙ ap (λ (x : Call). verdictOf x (c .before .before .before .before .before .args .source)) (sym (c .before .before .before .call3 .given .1))
+
+returns-4 : tie.Need-returns-4
+unfolding verdictOf
+returns-4 c =
+    c .judge-slot4 .ensures ∙ ap (λ (x : Call). verdictOf x (c .before .before .before .before .args .source)) (sym (c .before .before .call4 .given .1))
+
+returns-5 : tie.Need-returns-5
+unfolding verdictOf
+returns-5 c =
+    c .judge-slot5 .ensures ∙ ap (λ (x : Call). verdictOf x (c .before .before .before .before .args .source)) (sym (c .before .before .call5 .given .1))
+
+pub verdict-spec : {M : Type 1} → statement M
+verdict-spec =
+    tie.close
+    (tie.spec
+    enum-known-call
+    judge-receiver-requires
+    judge-slot-requires
+    enum-known-call-2
+    judge-slot-requires-2
+    enum-known-call-3
+    judge-source-requires
+    judge-slot-requires-3
+    enum-known-call-4
+    judge-slot-requires-4
+    enum-known-call-5
+    judge-slot-requires-5
+    returns
+    returns-2
+    returns-3
+    returns-4
+    returns-5)

@@ -1,0 +1,143 @@
+-- `read` gives the lowest refusal that applies, or what the fields tell.
+-- Assumes nothing.
+use Prim.Native.Nat.{ℕ, _+_}
+use mathlib.Core.Path.{_≡_, sym, ap, _∙_, subst}
+use mathlib.Core.Bool.{true, false, _||_}
+use mathlib.Core.List.{List}
+use native.Mathlib.Omega.{arith}
+use denote.Ref.{now}
+use borrow.Author.Tests.{lt-ltb, le-ltb, eq-eqb, ne-eqb}
+use lib.Dec.{ltb, eqb}
+use lib.ListN.{length}
+use Rattle.layout.specs.Layout.{size, fields, Within}
+use Rattle.codec.specs.declared.kinds.Shape.{Shape}
+use Rattle.codec.specs.Kinds.{at, layoutOf, leftoverOf}
+use Rattle.codec.specs.Record.{kindOf, lengthOf, valuesOf, cutShort, unknownKind, heard}
+use Rattle.codec.specs.Inner.{firstOf}
+use Rattle.codec.proofs.Rows.{row-fields}
+use Rattle.codec.proofs.Laws.{uncut, values-within, heard-filled, leftover-at, read-cut, read-unknown, read-leftover, read-heard}
+use borrow.Author.Needs.{needs}
+use Rattle.codec.proofs.read.Statement.{statement}
+use Rattle.codec.proofs.read.Tie as tie
+
+kind-of-requires : tie.Need-kind-of-requires
+kind-of-requires c κs = search needs
+
+shape-of-requires : tie.Need-shape-of-requires
+shape-of-requires c κs = search needs
+
+refuse-requires : tie.Need-refuse-requires
+refuse-requires c κs = search needs
+
+returns : tie.Need-returns
+returns c =
+    let p = c .before .before in
+    let s = now (p .before .before .before .args .job) in
+    let j = p .before .kind-of .result in
+    let k = p .before .kind-of .ensures in
+    let n : p .shape-of .result .bytes ≡ lengthOf s = ap (λ (x : Shape). x .bytes) (p .shape-of .ensures) ∙ ap (λ (i : ℕ). size (layoutOf i)) k in
+    let cut : cutShort s ≡ true = ap (λ (m : ℕ). eqb (length s) 0 || ltb (length s) m) (sym n) ∙ c .before .if1 .taken in
+    c .refuse .ensures ∙ read-cut s cut
+
+refuse-requires-2 : tie.Need-refuse-requires-2
+refuse-requires-2 c κs = search needs
+
+returns-2 : tie.Need-returns-2
+returns-2 c =
+    let p = c .before .before .before in
+    let s = now (p .before .before .before .args .job) in
+    let j = p .before .kind-of .result in
+    let k = p .before .kind-of .ensures in
+    let n : p .shape-of .result .bytes ≡ lengthOf s = ap (λ (x : Shape). x .bytes) (p .shape-of .ensures) ∙ ap (λ (i : ℕ). size (layoutOf i)) k in
+    let cut : cutShort s ≡ false = ap (λ (m : ℕ). eqb (length s) 0 || ltb (length s) m) (sym n) ∙ c .before .before .if1 .left in
+    c .refuse2 .ensures ∙ read-unknown s cut (eq-eqb (lengthOf s) 0 (sym n ∙ c .before .if2 .taken))
+
+values-requires : tie.Need-values-requires
+values-requires c κs =
+    let p = c .before .before in
+    let s = now (p .before .before .before .args .job) in
+    let j = p .before .kind-of .result in
+    let k = p .before .kind-of .ensures in
+    let n : p .shape-of .result .bytes ≡ lengthOf s = ap (λ (x : Shape). x .bytes) (p .shape-of .ensures) ∙ ap (λ (i : ℕ). size (layoutOf i)) k in
+    let cut : cutShort s ≡ false = ap (λ (m : ℕ). eqb (length s) 0 || ltb (length s) m) (sym n) ∙ c .before .if1 .left in
+    let e : size (layoutOf j) ≡ lengthOf s = ap (λ (i : ℕ). size (layoutOf i)) k in
+    omega (arith, uncut s cut)
+
+add-leftover : tie.Need-add-leftover
+add-leftover c = omega (arith, row-fields (c .before .before .before .before .kind-of .result), ap (λ (x : Shape). x .fields) (c .before .before .before .shape-of .ensures))
+
+mul-leftover : tie.Need-mul-leftover
+mul-leftover c = omega (arith, row-fields (c .before .before .before .before .kind-of .result), ap (λ (x : Shape). x .fields) (c .before .before .before .shape-of .ensures))
+
+array-read-leftover : tie.Need-array-read-leftover
+array-read-leftover c = omega (arith, row-fields (c .before .before .before .before .kind-of .result), ap (λ (x : Shape). x .fields) (c .before .before .before .shape-of .ensures))
+
+refuse-requires-3 : tie.Need-refuse-requires-3
+refuse-requires-3 c κs = search needs
+
+returns-3 : tie.Need-returns-3
+returns-3 c =
+    let p = c .before .before .before .before .before in
+    let s = now (p .before .before .before .args .job) in
+    let j = p .before .kind-of .result in
+    let k = p .before .kind-of .ensures in
+    let n : p .shape-of .result .bytes ≡ lengthOf s = ap (λ (x : Shape). x .bytes) (p .shape-of .ensures) ∙ ap (λ (i : ℕ). size (layoutOf i)) k in
+    let cut : cutShort s ≡ false = ap (λ (m : ℕ). eqb (length s) 0 || ltb (length s) m) (sym n) ∙ c .before .before .before .before .if1 .left in
+    let known : unknownKind s ≡ false = ne-eqb (lengthOf s) 0 (λ e. c .before .before .before .if2 .left (n ∙ e)) in
+    let v = c .before .before .values in
+    let f = p .shape-of .result .fields in
+    let left : at (v .result) (f + 1) ≡ leftoverOf (kindOf s) (valuesOf s) =
+    leftover-at s (v .result) j f k (v .ensures) (ap (λ (x : Shape). x .fields) (p .shape-of .ensures)) in
+    c .refuse3 .ensures ∙ read-leftover s cut known (ap (ltb 0) (sym left) ∙ lt-ltb 0 _ (c .before .if3 .taken))
+
+hear-requires : tie.Need-hear-requires
+hear-requires c κs =
+    let p = c .before .before .before .before .before in
+    let s = now (p .before .before .before .args .job) in
+    let j = p .before .kind-of .result in
+    let k = p .before .kind-of .ensures in
+    let n : p .shape-of .result .bytes ≡ lengthOf s = ap (λ (x : Shape). x .bytes) (p .shape-of .ensures) ∙ ap (λ (i : ℕ). size (layoutOf i)) k in
+    let e : size (layoutOf j) ≡ lengthOf s = ap (λ (i : ℕ). size (layoutOf i)) k in
+    let z : lengthOf s ≡ 0 → ⊥ = λ h. c .before .before .before .if2 .left (n ∙ h) in (
+      c .before .before .before .before .before .before .before .before .pre,
+      (
+        omega arith,
+        subst (λ (v : List ℕ). Within (layoutOf j) (firstOf j v)) (sym (c .before .before .values .ensures)) (values-within j s),
+      ),
+    )
+
+returns-4 : tie.Need-returns-4
+returns-4 c =
+    let p = c .before .before .before .before .before .before in
+    let s = now (p .before .before .before .args .job) in
+    let j = p .before .kind-of .result in
+    let k = p .before .kind-of .ensures in
+    let n : p .shape-of .result .bytes ≡ lengthOf s = ap (λ (x : Shape). x .bytes) (p .shape-of .ensures) ∙ ap (λ (i : ℕ). size (layoutOf i)) k in
+    let cut : cutShort s ≡ false = ap (λ (m : ℕ). eqb (length s) 0 || ltb (length s) m) (sym n) ∙ c .before .before .before .before .before .if1 .left in
+    let known : unknownKind s ≡ false = ne-eqb (lengthOf s) 0 (λ e. c .before .before .before .before .if2 .left (n ∙ e)) in
+    let v = c .before .before .before .values in
+    let f = p .shape-of .result .fields in
+    let left : at (v .result) (f + 1) ≡ leftoverOf (kindOf s) (valuesOf s) =
+    leftover-at s (v .result) j f k (v .ensures) (ap (λ (x : Shape). x .fields) (p .shape-of .ensures)) in
+    c .hear .ensures ∙ ap (heard j) (v .ensures) ∙ heard-filled j (fields (layoutOf j) s)
+    ∙ ap (λ (i : ℕ). heard i (fields (layoutOf i) s)) k
+    ∙ read-heard s cut known (ap (ltb 0) (sym left) ∙ le-ltb 0 _ (c .before .before .if3 .left))
+
+pub read-spec : {M : Type 1} → statement M
+read-spec =
+    tie.close
+    (tie.spec
+    kind-of-requires
+    shape-of-requires
+    refuse-requires
+    returns
+    refuse-requires-2
+    returns-2
+    values-requires
+    add-leftover
+    mul-leftover
+    array-read-leftover
+    refuse-requires-3
+    returns-3
+    hear-requires
+    returns-4)

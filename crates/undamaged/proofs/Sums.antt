@@ -1,0 +1,91 @@
+-- What holds of each in a list, and the sums of an account: no bar means that every pair is heard, and no sum then passes 512·10^15.
+-- Assumes nothing.
+use mathlib.Core.Path.{_≡_, refl, subst, _∙_}
+use mathlib.Core.Bool.{Bool, true, _&&_}
+use mathlib.Core.Option.{Option, none, some}
+use mathlib.Core.List.{List, [], _∷_}
+use Prim.Native.Nat.{ℕ, suc, _*_, _≤_, zero-le}
+use native.Mathlib.Nat.{suc-mul}
+use native.Mathlib.Omega.{arith}
+use lib.Dec.{leb}
+use lib.ListN.{length}
+use borrow.Author.Tests.{le-leb}
+use Rattle.road.specs.declared.Source.{Source}
+use Rattle.road.specs.declared.Receiver.{Receiver}
+use Rattle.road.specs.declared.Pair.{Pair}
+use Rattle.road.specs.declared.Pair.the-variants.{Heard, Barred}
+use Rattle.road.specs.Reach.{shareOf, sharesOf, pairOf}
+use Rattle.road.proofs.Pairs.{Sound, heard-is}
+use Rattle.store.specs.Account.{top, soundB}
+use Rattle.store.specs.Store.{sourceSlots, receiverSlots}
+use Rattle.ledger.specs.Lists.{present, All, sumOf, orBar, firstBar, weigh}
+use Rattle.undamaged.specs.Calls.{isHeard}
+
+-- where `cc` finds that two constructors are equal
+pub never : {A : Type 0} → _≡_ {A = ℕ} 0 1 → A
+never e = absurd (omega arith)
+
+pub and-both : {a b : Bool} → a ≡ true → b ≡ true → a && b ≡ true
+and-both p q = rw (p, q)
+
+-- ---- what holds of each
+
+module _ {A : Type 0} (P Q : A → Type 0) where
+  pub all-map : ((a : A) → P a → Q a) → (l : List A) → All P l → All Q l
+  all-map f [] p = tt
+  all-map f (a ∷ l) p = (f a (p .0), all-map f l (p .1))
+
+module _ {A : Type 0} where
+  pub sum-most : (f : A → ℕ) (most : ℕ) (l : List (Option A)) → All (λ a. f a ≤ most) (present l) → sumOf f (present l) ≤ length l * most
+  sum-most f most [] h = zero-le
+  sum-most f most (none ∷ l) h = omega (arith, sum-most f most l h, suc-mul (length l) most)
+  sum-most f most (some a ∷ l) h = omega (arith, h .0, sum-most f most l (h .1), suc-mul (length l) most)
+
+pub lanes-are : sourceSlots ≡ 512
+unfolding sourceSlots
+lanes-are = refl
+
+pub seats-are : receiverSlots ≡ 64
+unfolding receiverSlots
+seats-are = refl
+
+-- ---- pairs that are heard
+
+module _ {A : Type 0} (pair : A → Pair) where
+  abbrev pub heardAll : List (Option A) → Type 0
+  heardAll l = All (λ a. isHeard (pair a) ≡ true) (present l)
+
+  pub bars-pass : (j : ℕ) (l : List (Option A)) → firstBar pair j l ≡ none → heardAll l
+  unfolding firstBar
+  bars-pass j [] e = tt
+  bars-pass j (none ∷ l) e = bars-pass (suc j) l e
+  bars-pass j (some a ∷ l) e = go (pair a) (λ f. bars-pass (suc j) l f) e
+    where
+      go : (p : Pair) → (firstBar pair (suc j) l ≡ none → heardAll l) → orBar j p (firstBar pair (suc j) l) ≡ none → (isHeard p ≡ true) × heardAll l
+      go (Heard h) ih e = (refl, ih e)
+      go (Barred b) ih e = never cc
+
+-- a receiver hears each of these sources
+abbrev pub HearsAll : List Source → Receiver → Type 0
+HearsAll ss r = All (λ s. isHeard (pairOf s r) ≡ true) ss
+
+heard-sound : (s : Source) (r : Receiver) → isHeard (pairOf s r) ≡ true → Sound (sharesOf s r)
+heard-sound s r = go (pairOf s r) refl
+  where
+    go : (p : Pair) → pairOf s r ≡ p → isHeard p ≡ true → Sound (sharesOf s r)
+    go (Heard h) e t = let q = heard-is s r h e in rw (q .0) at (q .1)
+    go (Barred b) e t = never cc
+
+-- at most 512 sources of at most 10^15 each
+pub weigh-sound : (S : List (Option Source)) (r : Receiver) → length S ≡ sourceSlots
+    → HearsAll (present S) r → soundB (weigh (present S) r .sums) ≡ true
+unfolding sharesOf
+weigh-sound S r e p =
+    and-both (and-both (below 0 (λ s h. heard-sound s r h .day)) (below 1 (λ s h. heard-sound s r h .evening)))
+    (below 2 (λ s h. heard-sound s r h .night))
+  where
+    below : (k : ℕ) → ((s : Source) → isHeard (pairOf s r) ≡ true → shareOf s r k ≤ 1000000000000000) → leb (sumOf (λ s. shareOf s r k) (present S)) top ≡ true
+    below k f =
+        let q : length S ≡ 512 = e ∙ lanes-are in
+        let m = sum-most (λ s. shareOf s r k) 1000000000000000 S (all-map (λ s. isHeard (pairOf s r) ≡ true) (λ s. shareOf s r k ≤ 1000000000000000) f (present S) p) in
+        le-leb (sumOf (λ s. shareOf s r k) (present S)) top (subst (λ n. sumOf (λ s. shareOf s r k) (present S) ≤ n * 1000000000000000) q m)

@@ -1,0 +1,105 @@
+-- `enter_receiver` writes a receiver with what the sources bring, unless one is barred. Assumes nothing.
+use mathlib.Core.Path.{sym, ap, ap₂, _∙_}
+use Prim.Native.Nat.{ℕ, _-_}
+use borrow.Author.Needs.{needs}
+use mathlib.Core.List.{List}
+use mathlib.Core.Option.{Option, some}
+use lib.ListN.{set}
+use Rattle.answer.specs.declared.Refusal.{Refusal}
+use Rattle.road.specs.declared.Source.{Source}
+use Rattle.road.specs.declared.Receiver.{Receiver}
+use Rattle.road.specs.Reach.{pairOf}
+use Rattle.store.specs.declared.Account.{Account}
+use Rattle.store.specs.declared.Held.{Held}
+use Rattle.store.specs.Store.{book, bookOf, bytesOf}
+use Rattle.store.proofs.Laws.{undamaged, set-held}
+use Rattle.undamaged.specs.declared.Answer.{Answer}
+use Rattle.undamaged.specs.declared.Answer.the-variants.{Done}
+use Rattle.ledger.specs.Lists.{firstBar, present, weigh}
+use Rattle.undamaged.specs.Calls.{change, told, intoFree, unlessBarred}
+use Rattle.ledger.proofs.Entries.{seat-free, seat-used, stop-some, stop-none}
+use Rattle.undamaged.proofs.enter_receiver.Statement.{statement}
+use Rattle.undamaged.proofs.enter_receiver.Tie as tie
+
+-- what placing says of a slot and of the pairs
+in-slot : List ℕ → ℕ → Receiver → Option Held → Option Refusal → Answer × List ℕ
+in-slot s j r o b =
+    told s (intoFree o (unlessBarred b (change (book (bookOf s .sources) (set (bookOf s .receivers) j (some (weigh (present (bookOf s .sources)) r)))))))
+
+-- a receiver with its sums, as a slot
+abbrev held : Receiver → Account → Option Held
+held r a = some (record { who = r; sums = a })
+
+-- the first source that is barred
+bar : List ℕ → Receiver → Option Refusal
+bar s r = firstBar (λ (a : Source). pairOf a r) 0 (bookOf s .sources)
+
+seat-requires : tie.Need-seat-requires
+seat-requires c κs = let start = c .before .before in (start .pre .2, undamaged (start .args .store .now) (start .pre .1) .0)
+
+same-length : tie.Need-same-length
+same-length c = search needs
+
+returns : tie.Need-returns
+unfolding in-slot bar
+returns c =
+    let t = c .before in
+    let start = t .before .before .before in
+    let s = start .args .store .now in
+    let used = seat-used s (start .args .j) (start .pre .1) (start .pre .2) (t .seat .result) (t .seat .ensures) (c .if1 .taken) in
+    ap (λ (o : Option Held). in-slot s (start .args .j) (start .args .r) o (bar s (start .args .r))) (sym used)
+
+gather-requires : tie.Need-gather-requires
+gather-requires c κs = let start = c .before .before .before .before .before in (start .pre .0, start .pre .1, start .pre .3)
+
+enum-known-stop : tie.Need-enum-known-stop
+enum-known-stop c = search needs
+
+enum-told : tie.Need-enum-told
+enum-told c = search needs
+
+put-held-requires : tie.Need-put-held-requires
+unfolding bar
+put-held-requires c κs =
+    let g = c .before .before .before .before in
+    let start = g .before .before .before .before .before .before in
+    let s = start .args .store .now in
+    let clear = stop-none (bar s (start .args .r)) (sym (g .gather .ensures .stop) ∙ c .before .before .enum-told .given .1) in
+    (start .pre .2, undamaged s (start .pre .1) .0, (start .pre .3, g .gather .ensures .sound clear))
+
+same-length-2 : tie.Need-same-length-2
+same-length-2 c = search needs
+
+returns-2 : tie.Need-returns-2
+unfolding in-slot bar
+returns-2 c =
+    let g = c .before .before .before in
+    let t = g .before .before .before in
+    let start = t .before .before .before in
+    let s = start .args .store .now in
+    let free = seat-free s (start .args .j) (start .pre .1) (start .pre .2) (t .seat .result) (t .seat .ensures) (g .before .before .if1 .left) in
+    let barred = stop-some (bar s (start .args .r)) _ (sym (g .gather .ensures .stop) ∙ c .before .stop .given .1) in
+    ap₂ (in-slot s (start .args .j) (start .args .r)) (sym free) (sym barred)
+
+same-length-3 : tie.Need-same-length-3
+same-length-3 c = search needs
+
+returns-3 : tie.Need-returns-3
+unfolding in-slot bar
+returns-3 c =
+    let p = c .before .before in
+    let g = p .before .before .before .before .before in
+    let t = g .before .before .before in
+    let start = t .before .before .before in
+    let s = start .args .store .now in
+    let j = start .args .j in
+    let r = start .args .r in
+    let free = seat-free s j (start .pre .1) (start .pre .2) (t .seat .result) (t .seat .ensures) (g .before .before .if1 .left) in
+    let clear = stop-none (bar s r) (sym (g .gather .ensures .stop) ∙ p .before .before .before .enum-told .given .1) in
+    ap (λ (u : List ℕ). (Done, u))
+    (p .put-held .ensures ∙ set-held s j (held r (g .gather .result .sums)) (λ i. t .before .before .slice-known .given i .fits) (start .pre .1) (start .pre .2)
+    ∙ ap (λ (a : Account). bytesOf (book (bookOf s .sources) (set (bookOf s .receivers) j (held r a)))) (g .gather .ensures .sums clear))
+    ∙ ap₂ (in-slot s j r) (sym free) (sym clear)
+
+pub enter-receiver-spec : {M : Type 1} → statement M
+enter-receiver-spec = tie.close (tie.spec seat-requires same-length returns gather-requires enum-known-stop enum-told put-held-requires same-length-2 returns-2 same-length-3 returns-3)

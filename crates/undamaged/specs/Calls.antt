@@ -1,0 +1,161 @@
+-- What each call of the book answers and leaves, in terms of the book: two lists of slots (document 01, 'What the book holds').
+-- A call on bytes reads them as a book, asks one of these definitions, and writes the book that it gives.
+use Prim.Native.Nat.{ℕ}
+use mathlib.Core.Bool.{Bool, true, false, cond, _&&_}
+use mathlib.Core.Option.{Option, none, some}
+use mathlib.Core.List.{List, map}
+use lib.ListN.{length, getD, set}
+use lib.Dec.{eqb}
+use Rattle.answer.specs.declared.Refusal.{Refusal}
+use Rattle.answer.specs.Table.{numberBy, placeBy}
+use Rattle.answer.specs.declared.Refusal.the-variants.{Damaged, Taken, Vacant}
+use Rattle.road.specs.declared.Source.{Source}
+use Rattle.road.specs.declared.Receiver.{Receiver}
+use Rattle.road.specs.declared.Pair.{Pair}
+use Rattle.road.specs.declared.Pair.the-variants.{Heard, Barred}
+use Rattle.road.specs.declared.Verdict.{Verdict}
+use Rattle.road.specs.declared.Verdict.the-variants.{Allowed}
+use Rattle.road.specs.declared.Verdict.the-variants.{Refused as Barring}
+use Rattle.road.specs.Reach.{sharesOf, pairOf}
+use Rattle.road.specs.Judge.{sourceVerdict, receiverVerdict, slotVerdict, lastSource, lastReceiver}
+use Rattle.index.specs.Index.{ldenOf, lnightOf}
+use Rattle.store.specs.declared.Held.{Held}
+use Rattle.store.specs.Account.{plusOf, minusOf, coversB, roomB}
+use Rattle.store.specs.Store.{Book, book, damaged, bookOf, bytesOf, storeLength, clearedBytes}
+use Rattle.ledger.specs.Lists.{omap, present, every, firstBar, weigh}
+use Rattle.undamaged.specs.declared.Answer.{Answer}
+use Rattle.undamaged.specs.declared.Answer.the-variants.{Done, Levels, Refused}
+
+-- ---- slots: lists of them, the first bar and an account worked out afresh are in the ledger's specs/Lists.antt
+
+module _ {A : Type 0} where
+  abbrev pub used : Option A → Bool
+  used none = false
+  used (some a) = true
+
+-- ---- answers
+
+-- the refusal in an answer, if it is one; number and place by it
+abbrev pub refusalIn : Answer → Option Refusal
+refusalIn Done = none
+refusalIn (Levels den night) = none
+refusalIn (Refused why) = some why
+
+abbrev pub numberIn : Answer → ℕ
+numberIn a = numberBy (refusalIn a)
+
+abbrev pub placeIn : Answer → ℕ
+placeIn a = placeBy (refusalIn a)
+
+-- ---- what a call comes to: refused, told without a change, or another book
+
+pub data Step : Type 0 where
+  refuse : Refusal → Step
+  tell : Answer → Step
+  change : Book → Step
+
+abbrev pub allow : Verdict → Step → Step
+allow Allowed k = k
+allow (Barring r) k = refuse r
+
+module _ {A : Type 0} where
+  -- refusal 8: placing into a used slot
+  abbrev pub intoFree : Option A → Step → Step
+  intoFree none k = k
+  intoFree (some a) k = refuse Taken
+
+  -- refusal 9: withdrawing or asking an unused slot
+  abbrev pub fromUsed : Option A → (A → Step) → Step
+  fromUsed none k = refuse Vacant
+  fromUsed (some a) k = k a
+
+-- refusals 10 to 13, by the first bar
+abbrev pub unlessBarred : Option Refusal → Step → Step
+unlessBarred none k = k
+unlessBarred (some r) k = refuse r
+
+-- the late 1
+abbrev pub unlessLate : Bool → Step → Step
+unlessLate true k = k
+unlessLate false k = refuse Damaged
+
+-- ---- accounts
+
+-- a receiver with a source's shares more, or less
+abbrev pub more : Source → Held → Held
+more s x = record { who = x .who; sums = plusOf (x .sums) (sharesOf s (x .who)) }
+
+abbrev pub less : Source → Held → Held
+less s x = record { who = x .who; sums = minusOf (x .sums) (sharesOf s (x .who)) }
+
+-- whether a receiver's sums have room for a source's shares
+abbrev pub hasRoom : Source → Held → Bool
+hasRoom s x = roomB (x .sums) (sharesOf s (x .who))
+
+-- whether a receiver can give a source's shares back: the pair is not barred and no share is above its sum
+abbrev pub isHeard : Pair → Bool
+isHeard (Heard h) = true
+isHeard (Barred b) = false
+
+abbrev pub canReturn : Source → Held → Bool
+canReturn s x = isHeard (pairOf s (x .who)) && coversB (x .sums) (sharesOf s (x .who))
+
+-- ---- the calls: slot and fields first (5, 6, 7), then as each says
+
+abbrev pub sourceIn : ℕ → Source → Book → Step
+sourceIn i s b =
+    intoFree (getD (b .sources) i none)
+    (unlessBarred (firstBar (λ (x : Held). pairOf s (x .who)) 0 (b .receivers))
+    (unlessLate (every (hasRoom s) (present (b .receivers)))
+    (change (book (set (b .sources) i (some s)) (map (omap (more s)) (b .receivers))))))
+
+unfoldable pub placeSource : ℕ → Source → Book → Step
+placeSource i s b = allow (slotVerdict lastSource i (sourceVerdict s)) (sourceIn i s b)
+
+abbrev pub sourceOut : ℕ → Book → Step
+sourceOut i b =
+    fromUsed (getD (b .sources) i none) (λ s.
+    unlessLate (every (canReturn s) (present (b .receivers)))
+    (change (book (set (b .sources) i none) (map (omap (less s)) (b .receivers)))))
+
+unfoldable pub withdrawSource : ℕ → Book → Step
+withdrawSource i b = allow (slotVerdict lastSource i Allowed) (sourceOut i b)
+
+abbrev pub receiverIn : ℕ → Receiver → Book → Step
+receiverIn j r b =
+    intoFree (getD (b .receivers) j none)
+    (unlessBarred (firstBar (λ (s : Source). pairOf s r) 0 (b .sources))
+    (change (book (b .sources) (set (b .receivers) j (some (weigh (present (b .sources)) r))))))
+
+unfoldable pub placeReceiver : ℕ → Receiver → Book → Step
+placeReceiver j r b = allow (slotVerdict lastReceiver j (receiverVerdict r)) (receiverIn j r b)
+
+abbrev pub receiverOut : ℕ → Book → Step
+receiverOut j b = fromUsed (getD (b .receivers) j none) (λ x. change (book (b .sources) (set (b .receivers) j none)))
+
+unfoldable pub withdrawReceiver : ℕ → Book → Step
+withdrawReceiver j b = allow (slotVerdict lastReceiver j Allowed) (receiverOut j b)
+
+abbrev pub heardAt : ℕ → Book → Step
+heardAt j b =
+    fromUsed (getD (b .receivers) j none) (λ x.
+    tell (Levels (ldenOf (x .sums .day) (x .sums .evening) (x .sums .night)) (lnightOf (x .sums .night))))
+
+unfoldable pub askReceiver : ℕ → Book → Step
+askReceiver j b = allow (slotVerdict lastReceiver j Allowed) (heardAt j b)
+
+-- ---- on bytes
+
+-- what is answered, and the store at exit
+abbrev pub told : List ℕ → Step → Answer × List ℕ
+told s (refuse r) = (Refused r, s)
+told s (tell a) = (a, s)
+told s (change b) = (Done, bytesOf b)
+
+-- damage is looked for before all else
+unfoldable pub onStore : (Book → Step) → List ℕ → Answer × List ℕ
+onStore f s = cond (damaged s) (Refused Damaged, s) (told s (f (bookOf s)))
+
+-- clear refuses only a store of the wrong length
+unfoldable pub clearStore : List ℕ → Answer × List ℕ
+clearStore s = cond (eqb (length s) storeLength) (Done, clearedBytes) (Refused Damaged, s)

@@ -1,0 +1,182 @@
+// The calls of the book on a store that is known to be undamaged, with the level table lent: no look for damage.
+// What each answers and leaves is a definition of specs/Calls.antt, and the store stays undamaged: so whoever watches a store from
+// its clearing on can use these.
+use answer::Refusal;
+use index::Index;
+use ledger::gather;
+use ledger::round;
+use ledger::round::Stop;
+use road::Receiver;
+use road::Source;
+use road::Verdict;
+use store::Held;
+ghost use mathlib.Core.Path.{_≡_};
+ghost use mathlib.Core.Bool.{false};
+ghost use Prim.Native.Nat.{_<_};
+ghost use Rattle.level.specs.Table.{table};
+ghost use Rattle.road.specs.declared.Verdict.the-variants.{Allowed};
+ghost use Rattle.road.specs.Judge.{sourceVerdict, receiverVerdict};
+ghost use Rattle.store.specs.Store.{damaged, bookOf};
+ghost use Rattle.undamaged.specs.Calls.{told, sourceIn, sourceOut, receiverIn, receiverOut, heardAt, placeSource, withdrawSource, placeReceiver, withdrawReceiver, askReceiver};
+
+// What a call answers: done, the two indices of a receiver (L_DEN, then L_Night), or a refusal.
+pub enum Answer {
+    Done,
+    Levels(Index, Index),
+    Refused(Refusal),
+}
+
+// Places a source whose fields and slot are allowed.
+fn enter_source(steps: &[u32; 1000], store: &mut [u8], i: usize, s: Source) -> Answer
+    requires { ⌜ (now steps ≡ table) × (damaged (now store) ≡ false) × (i < 512) × (sourceVerdict s ≡ Allowed) ⌝ }
+    ensures { λ r. ⌜ (r, now (store .exit)) ≡ told (now (store .entry)) (sourceIn i s (bookOf (now (store .entry)))) ⌝ }
+{
+    let lane = store::sources::lane(store, i);
+    if lane.used {
+        return Answer::Refused(Refusal::Taken);
+    }
+    let voices = road::emission::voices(steps, s);
+    let found = round::go_round(steps, store, s, voices, true);
+    let stop = found.stop;
+    match stop {
+        Stop::At(why) => Answer::Refused(why),
+        Stop::Nowhere => {
+            if found.late {
+                return Answer::Refused(Refusal::Damaged);
+            }
+            let seats = found.seats;
+            round::write_seats(store, seats);
+            store::sources::put_source(store, i, s);
+            Answer::Done
+        }
+    }
+}
+
+// Places a source.
+pub fn place_source(steps: &[u32; 1000], store: &mut [u8], slot: u16, s: Source) -> Answer
+    requires { ⌜ (now steps ≡ table) × (damaged (now store) ≡ false) ⌝ }
+    ensures { λ r. ⌜ ((r, now (store .exit)) ≡ told (now (store .entry)) (placeSource slot s (bookOf (now (store .entry))))) × (damaged (now (store .exit)) ≡ false) ⌝ }
+{
+    let fields = road::judge::judge_source(steps, s);
+    match road::judge::judge_slot(511, slot, fields) {
+        Verdict::Refused(why) => Answer::Refused(why),
+        Verdict::Allowed => enter_source(steps, store, slot as usize, s),
+    }
+}
+
+// Withdraws the source of a slot that is allowed.
+fn leave_source(steps: &[u32; 1000], store: &mut [u8], i: usize) -> Answer
+    requires { ⌜ (now steps ≡ table) × (damaged (now store) ≡ false) × (i < 512) ⌝ }
+    ensures { λ r. ⌜ (r, now (store .exit)) ≡ told (now (store .entry)) (sourceOut i (bookOf (now (store .entry)))) ⌝ }
+{
+    let lane = store::sources::lane(store, i);
+    if !lane.used {
+        return Answer::Refused(Refusal::Vacant);
+    }
+    let s = lane.source;
+    let voices = road::emission::voices(steps, s);
+    let found = round::go_round(steps, store, s, voices, false);
+    if found.late {
+        return Answer::Refused(Refusal::Damaged);
+    }
+    let seats = found.seats;
+    round::write_seats(store, seats);
+    store::sources::drop_source(store, i);
+    Answer::Done
+}
+
+// Withdraws a source.
+pub fn withdraw_source(steps: &[u32; 1000], store: &mut [u8], slot: u16) -> Answer
+    requires { ⌜ (now steps ≡ table) × (damaged (now store) ≡ false) ⌝ }
+    ensures { λ r. ⌜ ((r, now (store .exit)) ≡ told (now (store .entry)) (withdrawSource slot (bookOf (now (store .entry))))) × (damaged (now (store .exit)) ≡ false) ⌝ }
+{
+    match road::judge::judge_slot(511, slot, Verdict::Allowed) {
+        Verdict::Refused(why) => Answer::Refused(why),
+        Verdict::Allowed => leave_source(steps, store, slot as usize),
+    }
+}
+
+// Places a receiver whose fields and slot are allowed.
+fn enter_receiver(steps: &[u32; 1000], store: &mut [u8], j: usize, r: Receiver) -> Answer
+    requires { ⌜ (now steps ≡ table) × (damaged (now store) ≡ false) × (j < 64) × (receiverVerdict r ≡ Allowed) ⌝ }
+    ensures { λ a. ⌜ (a, now (store .exit)) ≡ told (now (store .entry)) (receiverIn j r (bookOf (now (store .entry)))) ⌝ }
+{
+    let seat = store::receivers::seat(store, j);
+    if seat.used {
+        return Answer::Refused(Refusal::Taken);
+    }
+    let brought = gather::gather(steps, store, r);
+    let stop = brought.stop;
+    match stop {
+        Stop::At(why) => Answer::Refused(why),
+        Stop::Nowhere => {
+            let sums = brought.sums;
+            let x = Held { who: r, sums: sums };
+            store::receivers::put_held(store, j, x);
+            Answer::Done
+        }
+    }
+}
+
+// Places a receiver.
+pub fn place_receiver(steps: &[u32; 1000], store: &mut [u8], slot: u16, r: Receiver) -> Answer
+    requires { ⌜ (now steps ≡ table) × (damaged (now store) ≡ false) ⌝ }
+    ensures { λ a. ⌜ ((a, now (store .exit)) ≡ told (now (store .entry)) (placeReceiver slot r (bookOf (now (store .entry))))) × (damaged (now (store .exit)) ≡ false) ⌝ }
+{
+    let fields = road::judge::judge_receiver(r);
+    match road::judge::judge_slot(63, slot, fields) {
+        Verdict::Refused(why) => Answer::Refused(why),
+        Verdict::Allowed => enter_receiver(steps, store, slot as usize, r),
+    }
+}
+
+// Withdraws the receiver of a slot that is allowed.
+fn leave_receiver(store: &mut [u8], j: usize) -> Answer
+    requires { ⌜ (damaged (now store) ≡ false) × (j < 64) ⌝ }
+    ensures { λ r. ⌜ (r, now (store .exit)) ≡ told (now (store .entry)) (receiverOut j (bookOf (now (store .entry)))) ⌝ }
+{
+    let seat = store::receivers::seat(store, j);
+    if !seat.used {
+        return Answer::Refused(Refusal::Vacant);
+    }
+    store::receivers::drop_held(store, j);
+    Answer::Done
+}
+
+// Withdraws a receiver.
+pub fn withdraw_receiver(store: &mut [u8], slot: u16) -> Answer
+    requires { ⌜ damaged (now store) ≡ false ⌝ }
+    ensures { λ r. ⌜ ((r, now (store .exit)) ≡ told (now (store .entry)) (withdrawReceiver slot (bookOf (now (store .entry))))) × (damaged (now (store .exit)) ≡ false) ⌝ }
+{
+    match road::judge::judge_slot(63, slot, Verdict::Allowed) {
+        Verdict::Refused(why) => Answer::Refused(why),
+        Verdict::Allowed => leave_receiver(store, slot as usize),
+    }
+}
+
+// The indices of the receiver of a slot that is allowed.
+fn indices(steps: &[u32; 1000], store: &[u8], j: usize) -> Answer
+    requires { ⌜ (now steps ≡ table) × (damaged (now store) ≡ false) × (j < 64) ⌝ }
+    ensures { λ r. ⌜ (r, now (store .entry)) ≡ told (now (store .entry)) (heardAt j (bookOf (now (store .entry)))) ⌝ }
+{
+    let seat = store::receivers::seat(store, j);
+    if !seat.used {
+        return Answer::Refused(Refusal::Vacant);
+    }
+    let x = seat.held;
+    let sums = x.sums;
+    let den = index::lden(steps, sums.day, sums.evening, sums.night);
+    let night = index::lnight(steps, sums.night);
+    Answer::Levels(den, night)
+}
+
+// Asks a receiver for its two indices.
+pub fn ask(steps: &[u32; 1000], store: &[u8], slot: u16) -> Answer
+    requires { ⌜ (now steps ≡ table) × (damaged (now store) ≡ false) ⌝ }
+    ensures { λ r. ⌜ (r, now (store .entry)) ≡ told (now (store .entry)) (askReceiver slot (bookOf (now (store .entry)))) ⌝ }
+{
+    match road::judge::judge_slot(63, slot, Verdict::Allowed) {
+        Verdict::Refused(why) => Answer::Refused(why),
+        Verdict::Allowed => indices(steps, store, slot as usize),
+    }
+}
