@@ -47,8 +47,7 @@ returns c =
 turn-requires : tie.Need-turn-requires Inv-loop μ-loop
 turn-requires c κs =
     let l = c .before .before .before .before .before .before .before .before .before .before .loop in
-    let start = c .before .before .before .before .before .before .before .before .before .before .before .before .before .before .before .before .before .before in
-    (
+    let start = c .before .before .before .before .before .before .before .before .before .before .before .before .before .before .before .before .before .before in (
       start .pre .0,
       l .inv .sound,
       l .inv .ordered,
