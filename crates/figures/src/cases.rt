@@ -61,7 +61,7 @@ pub fn street(x: u32, length: u32) -> Source
 }
 
 // Squared distance, distance, and what distance and ground take off. H is 450, twice the mean height of the ray.
-fn way(steps: &[u32; 1000], of: &[u8], x: u32)
+fn way(steps: &[u32; 1000], names: &[u8], x: u32)
     requires { ⌜ (now steps ≡ table) × (100000 ≤ x) × (x ≤ 110000) ⌝ }
 {
     let r = point();
@@ -74,10 +74,10 @@ fn way(steps: &[u32; 1000], of: &[u8], x: u32)
         up: way.down,
         down: other,
     };
-    print::number(of, b"Q ", q);
-    print::number(of, b"r ", far);
-    print::level(of, b"Ds ", distance);
-    print::number(of, b"ground ", ground as u64);
+    print::number(names, 0, q);
+    print::number(names, 1, far);
+    print::level(names, 2, distance);
+    print::number(names, 3, ground as u64);
 }
 
 // The refusal of a pair that is barred, with the slot 0.
@@ -115,86 +115,111 @@ fn meet(steps: &[u32; 1000], s: Source) -> Outcome
 }
 
 // What speed gives, for the road's two speeds.
-fn speed(steps: &[u32; 1000])
+fn speed(steps: &[u32; 1000], names: &[u8])
     requires { ⌜ now steps ≡ table ⌝ }
 {
     let s = street(102500, 1000);
     match judge::judge_source(steps, s) {
-        Verdict::Refused(why) => print::refusal(b"v 100, u 80: ", why),
+        Verdict::Refused(why) => print::refusal(names, 0, why),
         Verdict::Allowed => {
             let pace = emission::pace_of(steps, s);
-            print::level(
-                b"v 100, u 80, p 0: ",
-                b"Dv ",
-                emission::speed(steps, pace, 0),
-            );
-            print::level(
-                b"v 100, u 80, p 200: ",
-                b"Dv ",
-                emission::speed(steps, pace, 200),
-            );
+            print::level(names, 0, emission::speed(steps, pace, 0));
+            print::level(names, 1, emission::speed(steps, pace, 200));
         }
     }
 }
 
 // The shares of the road, as energies and as levels.
-fn shares(steps: &[u32; 1000], of: &[u8], x: u32)
+fn shares(steps: &[u32; 1000], names: &[u8], x: u32)
     requires { ⌜ now steps ≡ table ⌝ }
 {
     match meet(steps, street(x, 1000)) {
-        Outcome::Refused(why) => print::refusal(of, why),
+        Outcome::Refused(why) => print::refusal(names, 0, why),
         Outcome::Told(h) => {
-            print::number(of, b"energy by day ", h.day);
-            print::number(of, b"energy in the evening ", h.evening);
-            print::number(of, b"energy at night ", h.night);
-            print::heard(of, b"share by day ", level::level(steps, h.day));
-            print::heard(of, b"share in the evening ", level::level(steps, h.evening));
-            print::heard(of, b"share at night ", level::level(steps, h.night));
+            print::number(names, 0, h.day);
+            print::number(names, 1, h.evening);
+            print::number(names, 2, h.night);
+            print::heard(names, 3, level::level(steps, h.day));
+            print::heard(names, 4, level::level(steps, h.evening));
+            print::heard(names, 5, level::level(steps, h.night));
         }
     }
 }
 
 // The road twice, at night.
-fn twice(steps: &[u32; 1000], of: &[u8], x: u32)
+fn twice(steps: &[u32; 1000], names: &[u8])
     requires { ⌜ now steps ≡ table ⌝ }
 {
-    match meet(steps, street(x, 1000)) {
-        Outcome::Refused(why) => print::refusal(of, why),
+    match meet(steps, street(102500, 1000)) {
+        Outcome::Refused(why) => print::refusal(names, 0, why),
         Outcome::Told(h) => {
             let both = h.night + h.night;
-            print::heard(of, b"night level ", level::level(steps, both));
+            print::heard(names, 0, level::level(steps, both));
         }
     }
 }
 
 // Whether the road is heard at the point.
-fn limit(steps: &[u32; 1000], of: &[u8], x: u32, length: u32)
+fn limit(steps: &[u32; 1000], names: &[u8], k: usize, x: u32, length: u32)
     requires { ⌜ now steps ≡ table ⌝ }
 {
     match meet(steps, street(x, length)) {
-        Outcome::Refused(why) => print::refusal(of, why),
-        Outcome::Told(_) => print::word(of, b"heard\n"),
+        Outcome::Refused(why) => print::refusal(names, k, why),
+        Outcome::Told(_) => print::word(names, k, b"heard\n"),
     }
 }
 
 // The longest piece at 25 m, and the nearest road.
-fn limits(steps: &[u32; 1000])
+fn limits(steps: &[u32; 1000], names: &[u8])
     requires { ⌜ now steps ≡ table ⌝ }
 {
-    limit(steps, b"25 m, l 1262: ", 102500, 1262);
-    limit(steps, b"25 m, l 1263: ", 102500, 1263);
-    limit(steps, b"dx 357: ", 100357, 1000);
-    limit(steps, b"dx 358, l 100: ", 100358, 100);
+    limit(steps, names, 0, 102500, 1262);
+    limit(steps, names, 1, 102500, 1263);
+    limit(steps, names, 2, 100357, 1000);
+    limit(steps, names, 3, 100358, 100);
+}
+
+// The road at 25 m, once and twice.
+fn at_25(steps: &[u32; 1000])
+    requires { ⌜ now steps ≡ table ⌝ }
+{
+    way(
+        steps,
+        b"25 m: Q \n25 m: r \n25 m: Ds \n25 m: ground \n",
+        102500,
+    );
+    shares(
+        steps,
+        b"25 m: energy by day \n25 m: energy in the evening \n25 m: energy at night \n25 m: share by day \n25 m: share in the evening \n25 m: share at night \n",
+        102500,
+    );
+    twice(steps, b"25 m, twice: night level \n");
+}
+
+// The road at 100 m.
+fn at_100(steps: &[u32; 1000])
+    requires { ⌜ now steps ≡ table ⌝ }
+{
+    way(
+        steps,
+        b"x 110000: Q \nx 110000: r \nx 110000: Ds \nx 110000: ground \n",
+        110000,
+    );
+    shares(
+        steps,
+        b"x 110000: energy by day \nx 110000: energy in the evening \nx 110000: energy at night \nx 110000: share by day \nx 110000: share in the evening \nx 110000: share at night \n",
+        110000,
+    );
 }
 
 // All of them.
 pub fn all() {
     let steps = level::table::steps();
-    speed(&steps);
-    way(&steps, b"25 m: ", 102500);
-    shares(&steps, b"25 m: ", 102500);
-    twice(&steps, b"25 m, twice: ", 102500);
-    way(&steps, b"x 110000: ", 110000);
-    shares(&steps, b"x 110000: ", 110000);
-    limits(&steps);
+    speed(&steps, b"v 100, u 80, p 0: Dv \nv 100, u 80, p 200: Dv \n");
+    at_25(&steps);
+    at_100(&steps);
+    limits(
+        &steps,
+        b"25 m, l 1262: \n25 m, l 1263: \ndx 357: \ndx 358, l 100: \n",
+    );
 }

@@ -1,54 +1,72 @@
-// How a figure is written: what it is of, what it is, and the number, on one line.
-// A level is written as what it adds less what it takes off.
+// How a figure is written: its name, which is a line of a list of names, and the number.
+// A list of names is one text: each text that a function names costs the proof of that function a good deal.
 use answer::Refusal;
 use level::Heard;
 use libc::STDOUT_FILENO;
 use road::Term;
 
-// A number.
-pub fn number(of: &[u8], name: &[u8], n: u64) {
-    io::write_all(STDOUT_FILENO, of);
-    io::write_all(STDOUT_FILENO, name);
-    io::print_decimal(STDOUT_FILENO, n);
-    io::write_all(STDOUT_FILENO, b"\n");
+// A text.
+pub fn text(bytes: &[u8]) {
+    io::write_all(STDOUT_FILENO, bytes);
 }
 
-// A level, which may be below 0.
-pub fn level(of: &[u8], name: &[u8], t: Term) {
-    io::write_all(STDOUT_FILENO, of);
-    io::write_all(STDOUT_FILENO, name);
-    if t.up < t.down {
-        io::write_all(STDOUT_FILENO, b"-");
-        io::print_decimal(STDOUT_FILENO, (t.down - t.up) as u64);
-    } else {
-        io::print_decimal(STDOUT_FILENO, (t.up - t.down) as u64);
+// The name k of a list, one to a line.
+pub fn name(names: &[u8], k: usize) {
+    let mut left = k;
+    let mut i = 0;
+    while i < names.len() {
+        if names[i] == b'\n' {
+            if left == 0 {
+                return;
+            }
+            left -= 1;
+        } else if left == 0 {
+            text(&names[i..i + 1]);
+        }
+        i += 1;
     }
-    io::write_all(STDOUT_FILENO, b"\n");
+}
+
+// A number.
+pub fn number(names: &[u8], k: usize, n: u64) {
+    name(names, k);
+    io::print_decimal(STDOUT_FILENO, n);
+    text(b"\n");
+}
+
+// A level, which may be below 0: what it adds less what it takes off.
+pub fn level(names: &[u8], k: usize, t: Term) {
+    if t.up < t.down {
+        name(names, k);
+        number(b"-", 0, (t.down - t.up) as u64);
+    } else {
+        number(names, k, (t.up - t.down) as u64);
+    }
 }
 
 // What is heard of an energy.
-pub fn heard(of: &[u8], name: &[u8], h: Heard) {
+pub fn heard(names: &[u8], k: usize, h: Heard) {
     match h {
-        Heard::Quiet => word(of, b"quiet\n"),
-        Heard::Level(l) => number(of, name, l as u64),
+        Heard::Quiet => word(names, k, b"quiet\n"),
+        Heard::Level(l) => number(names, k, l as u64),
     }
 }
 
 // An outcome in words.
-pub fn word(of: &[u8], text: &[u8]) {
-    io::write_all(STDOUT_FILENO, of);
-    io::write_all(STDOUT_FILENO, text);
+pub fn word(names: &[u8], k: usize, outcome: &[u8]) {
+    name(names, k);
+    text(outcome);
 }
 
 // A refusal, by its number.
-pub fn refusal(of: &[u8], why: Refusal) {
-    number(of, b"refused ", answer::number(why) as u64);
+pub fn refusal(names: &[u8], k: usize, why: Refusal) {
+    name(names, k);
+    number(b"refused ", 0, answer::number(why) as u64);
 }
 
 // A refusal, by its number and its place.
-pub fn refusal_at(of: &[u8], why: Refusal) {
-    io::write_all(STDOUT_FILENO, of);
-    io::write_all(STDOUT_FILENO, b"refused ");
+pub fn refusal_at(names: &[u8], k: usize, why: Refusal) {
+    word(names, k, b"refused ");
     io::print_decimal(STDOUT_FILENO, answer::number(why) as u64);
-    number(b" at ", b"", answer::place(why) as u64);
+    number(b" at ", 0, answer::place(why) as u64);
 }

@@ -4,106 +4,81 @@ use crate::cases;
 use crate::print;
 use book::Answer;
 use index::Index;
-use road::Source;
 
-// An index, in tenths of a dB.
-fn tenths(of: &[u8], name: &[u8], i: Index) {
+// An index, in tenths of a dB: L_DEN, or L_Night.
+fn tenths(names: &[u8], k: usize, which: usize, i: Index) {
+    print::name(names, k);
     match i {
-        Index::Quiet => print::word(of, b"quiet\n"),
-        Index::Tenths(n) => print::number(of, name, n as u64),
+        Index::Quiet => print::text(b"quiet\n"),
+        Index::Tenths(n) => print::number(b"L_DEN \nL_Night \n", which, n as u64),
     }
 }
 
 // What a call answered.
-fn told(of: &[u8], a: Answer) {
+fn told(names: &[u8], k: usize, a: Answer) {
     match a {
-        Answer::Done => print::word(of, b"accepted\n"),
+        Answer::Done => print::word(names, k, b"accepted\n"),
         Answer::Levels(den, night) => {
-            tenths(of, b"L_DEN ", den);
-            tenths(of, b"L_Night ", night);
+            tenths(names, k, 0, den);
+            tenths(names, k, 1, night);
         }
-        Answer::Refused(why) => print::refusal_at(of, why),
+        Answer::Refused(why) => print::refusal_at(names, k, why),
     }
 }
 
 // A road placed into a slot.
-fn place(store: &mut [u8], of: &[u8], slot: u16, s: Source) {
-    told(of, book::place_source(store, slot, s));
-}
-
-// The point asked for its two indices.
-fn ask(store: &mut [u8], of: &[u8], slot: u16) {
-    told(of, book::ask(store, slot));
-}
-
-// The road.
-fn once(store: &mut [u8]) {
-    place(store, b"book, source 0: ", 0, cases::street(102500, 1000));
-    ask(store, b"25 m, in the book: ", 5);
-}
-
-// The same road a second time.
-fn twice(store: &mut [u8]) {
-    place(store, b"book, source 1: ", 1, cases::street(102500, 1000));
-    ask(store, b"25 m, twice, in the book: ", 5);
-}
-
-// The second taken out: it leaves nothing behind.
-fn again(store: &mut [u8]) {
-    told(b"book, source 1 out: ", book::withdraw_source(store, 1));
-    ask(store, b"25 m, once again, in the book: ", 5);
-}
-
-// The longest piece at 25 m, beside the road that stands.
-fn longest(store: &mut [u8]) {
-    place(
-        store,
-        b"book, 25 m, l 1262: ",
-        2,
-        cases::street(102500, 1262),
-    );
-    place(
-        store,
-        b"book, 25 m, l 1263: ",
-        3,
-        cases::street(102500, 1263),
+fn place(store: &mut [u8], names: &[u8], k: usize, slot: u16, x: u32, length: u32) {
+    told(
+        names,
+        k,
+        book::place_source(store, slot, cases::street(x, length)),
     );
 }
 
-// The nearest road, beside them.
-fn nearest(store: &mut [u8]) {
-    place(store, b"book, dx 357: ", 3, cases::street(100357, 1000));
-    place(
-        store,
-        b"book, dx 358, l 100: ",
-        3,
-        cases::street(100358, 100),
-    );
+// The point, and the road once.
+fn once(store: &mut [u8], names: &[u8]) {
+    told(names, 0, book::clear(store));
+    told(names, 1, book::place_receiver(store, 5, cases::point()));
+    place(store, names, 2, 0, 102500, 1000);
+    told(names, 3, book::ask(store, 5));
+}
+
+// The same road a second time, and taken out again: it leaves nothing behind.
+fn twice(store: &mut [u8], names: &[u8]) {
+    place(store, names, 0, 1, 102500, 1000);
+    told(names, 1, book::ask(store, 5));
+    told(names, 2, book::withdraw_source(store, 1));
+    told(names, 3, book::ask(store, 5));
+}
+
+// The longest piece at 25 m, and the nearest road, beside the road that stands.
+fn limits(store: &mut [u8], names: &[u8]) {
+    place(store, names, 0, 2, 102500, 1262);
+    place(store, names, 1, 3, 102500, 1263);
+    place(store, names, 2, 3, 100357, 1000);
+    place(store, names, 3, 3, 100358, 100);
 }
 
 // A slot that is not used, and one that is.
-fn slots(store: &mut [u8]) {
-    ask(store, b"book, ask 6: ", 6);
-    place(
-        store,
-        b"book, source 0 again: ",
-        0,
-        cases::street(102500, 1000),
-    );
+fn slots(store: &mut [u8], names: &[u8]) {
+    told(names, 0, book::ask(store, 6));
+    place(store, names, 1, 0, 102500, 1000);
 }
 
 // All of them.
 pub fn all() {
     let mut store = [0u8; 20544];
-    told(b"book, clear: ", book::clear(&mut store));
-    told(
-        b"book, receiver 5: ",
-        book::place_receiver(&mut store, 5, cases::point()),
+    once(
+        &mut store,
+        b"book, clear: \nbook, receiver 5: \nbook, source 0: \n25 m, in the book: \n",
     );
-    once(&mut store);
-    twice(&mut store);
-    again(&mut store);
-    longest(&mut store);
-    nearest(&mut store);
-    slots(&mut store);
+    twice(
+        &mut store,
+        b"book, source 1: \n25 m, twice, in the book: \nbook, source 1 out: \n25 m, once again, in the book: \n",
+    );
+    limits(
+        &mut store,
+        b"book, 25 m, l 1262: \nbook, 25 m, l 1263: \nbook, dx 357: \nbook, dx 358, l 100: \n",
+    );
+    slots(&mut store, b"book, ask 6: \nbook, source 0 again: \n");
 }

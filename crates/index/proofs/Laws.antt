@@ -51,3 +51,10 @@ pub lifted-day : (s : ℕ) → s ≤ top → liftedOf 0 s ≤ top
 lifted-day s h =
     heard-cases (λ x. lift 0 x ≤ top) s (λ k. omega arith)
     (λ k. let e : levelOf s + 0 ≡ levelOf s = omega arith in omega (arith, ap energyOf e, level-reached s k .has))
+
+-- in the evening, and at night, by what is added at most
+pub lifted-evening : (n s : ℕ) → n ≤ 500 → s ≤ top → liftedOf n s ≤ 1618080000000000000
+lifted-evening n s l h = omega (arith, lifted-most n s h, energy-rises (11709 + n) 12209 (omega arith), evening-most)
+
+pub lifted-night : (n s : ℕ) → n ≤ 1000 → s ≤ top → liftedOf n s ≤ 5116818000000000000
+lifted-night n s l h = omega (arith, lifted-most n s h, energy-rises (11709 + n) 12709 (omega arith), night-most)

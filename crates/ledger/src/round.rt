@@ -185,10 +185,10 @@ pub fn write_seats(store: &mut [u8], seats: [Seat; 64])
     requires { ⌜ (damaged (now store) ≡ false) × StandingSeats seats ⌝ }
     ensures { λ _. ⌜ (damaged (now (store .exit)) ≡ false) × (bookOf (now (store .exit)) ≡ book (bookOf (now (store .entry)) .sources) (seated seats (bookOf (now (store .entry)) .receivers))) ⌝ }
 {
-    let mut j = 0;
-    while j < 64 {
-        let seat = seats[j];
-        settle(store, j, seat);
-        j += 1;
+    let mut k = 0;
+    while k < 64 {
+        let seat = seats[k];
+        settle(store, k, seat);
+        k += 1;
     }
 }

@@ -138,6 +138,10 @@ module _ (s : Source) (r : Receiver) where
   unfolding pairOf
   pair-far h = rw (le-ltb (spaceSquare s r) 250000 (omega arith), lt-ltb 40000000000 (spaceSquare s r) h, pairOf)
 
+  -- a pair that is too far is neither too near nor, with a length that is allowed, too long: between these rows no order shows
+  pub far-alone : s .length ≤ 100000 → 40000000000 < spaceSquare s r → (250000 ≤ spaceSquare s r) × (4 * square (s .length) ≤ spaceSquare s r)
+  far-alone l h = (omega arith, omega (arith, times (s .length) (s .length) 100000 100000 l l))
+
   pub pair-long : 250000 ≤ spaceSquare s r → spaceSquare s r ≤ 40000000000 → spaceSquare s r < 4 * square (s .length) → pairOf s r ≡ Barred Long
   unfolding pairOf
   pair-long a b h =

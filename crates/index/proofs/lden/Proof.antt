@@ -5,7 +5,7 @@ use native.Mathlib.Omega.{arith}
 use borrow.Author.Needs.{needs}
 use Rattle.level.specs.Level.{heardOf}
 use Rattle.index.specs.Index.{levelIn, tenthsOf}
-use Rattle.index.proofs.Laws.{level-any, lifted-most, lifted-day, evening-most, night-most}
+use Rattle.index.proofs.Laws.{level-any, lifted-day, lifted-evening, lifted-night}
 use Rattle.index.proofs.lden.Statement.{statement}
 use Rattle.index.proofs.lden.Tie as tie
 
@@ -30,8 +30,8 @@ loud c =
     let a = start .args in
     record {
       day = omega (arith, c .before .before .lifted .ensures, lifted-day (a .day) (start .pre .1));
-      evening = omega (arith, c .before .lifted2 .ensures, lifted-most 500 (a .evening) (start .pre .2), evening-most);
-      night = omega (arith, c .lifted3 .ensures, lifted-most 1000 (a .night) (start .pre .3), night-most);
+      evening = rw (c .before .lifted2 .ensures) (lifted-evening _ _ (omega arith) (start .pre .2));
+      night = rw (c .lifted3 .ensures) (lifted-night _ _ (omega arith) (start .pre .3));
     }
 
 mul-mean : tie.Need-mul-mean

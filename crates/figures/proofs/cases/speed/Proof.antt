@@ -21,9 +21,6 @@ judge-source-requires c κs = search needs
 enum-known-why : tie.Need-enum-known-why
 enum-known-why c = search needs
 
-slice-aggregate-refusal : tie.Need-slice-aggregate-refusal
-slice-aggregate-refusal c = search needs
-
 refusal-requires : tie.Need-refusal-requires
 refusal-requires c κs = search needs
 
@@ -31,38 +28,26 @@ enum-told : tie.Need-enum-told
 enum-told c = search needs
 
 pace-of-requires : tie.Need-pace-of-requires
-pace-of-requires c κs = (c .before .before .before .before .pre, sym (c .before .before .judge-source .ensures) ∙ c .enum-told .given .1)
+pace-of-requires c κs = (c .before .before .before .before .before .pre, sym (c .before .before .judge-source .ensures) ∙ c .enum-told .given .1)
 
 -- the pace is small, for every p
 small : (s : Source) (p : Pace) → p ≡ paceOf s → Paced p
 small s p e = rw e (paced s)
 
 ready : (c : tie.After-pace-of) (p : ℕ) → p ≤ 1000
-    → (c .before .before .before .before .before .args .steps .now ≡ table) × (c .pace-of .result .car ≤ 20000) × (c .pace-of .result .gain < 1000000000) × (p ≤ 1000)
+    → (c .before .before .before .before .before .before .args .steps .now ≡ table) × (c .pace-of .result .car ≤ 20000) × (c .pace-of .result .gain < 1000000000) × (p ≤ 1000)
 ready c p h =
     let k = small (c .before .before .before .before .street .result) (c .pace-of .result) (c .pace-of .ensures) in
-    (c .before .before .before .before .before .pre, k .car, k .gain, h)
-
-slice-aggregate-level : tie.Need-slice-aggregate-level
-slice-aggregate-level c = search needs
-
-slice-aggregate-level-2 : tie.Need-slice-aggregate-level-2
-slice-aggregate-level-2 c = search needs
+    (c .before .before .before .before .before .before .pre, k .car, k .gain, h)
 
 speed-requires : tie.Need-speed-requires
-speed-requires c κs = ready (c .before .before) 0 (omega arith)
+speed-requires c κs = ready c 0 (omega arith)
 
 level-requires : tie.Need-level-requires
 level-requires c κs = search needs
 
-slice-aggregate-level-3 : tie.Need-slice-aggregate-level-3
-slice-aggregate-level-3 c = search needs
-
-slice-aggregate-level-4 : tie.Need-slice-aggregate-level-4
-slice-aggregate-level-4 c = search needs
-
 speed-requires-2 : tie.Need-speed-requires-2
-speed-requires-2 c κs = ready (c .before .before .before .before .before .before) 200 (omega arith)
+speed-requires-2 c κs = ready (c .before .before) 200 (omega arith)
 
 level-requires-2 : tie.Need-level-requires-2
 level-requires-2 c κs = search needs
@@ -80,16 +65,11 @@ speed-spec =
     street-requires
     judge-source-requires
     enum-known-why
-    slice-aggregate-refusal
     refusal-requires
     enum-told
     pace-of-requires
-    slice-aggregate-level
-    slice-aggregate-level-2
     speed-requires
     level-requires
-    slice-aggregate-level-3
-    slice-aggregate-level-4
     speed-requires-2
     level-requires-2
     returns

@@ -27,9 +27,6 @@ add-both c =
     let m = c .before .before .before .before in
     omega (arith, heard-is (m .before .street .result) home _ (m .meet .ensures _ (c .before .before .h .given .1)) .1 .night)
 
-slice-aggregate-heard : tie.Need-slice-aggregate-heard
-slice-aggregate-heard c = search needs
-
 level-requires : tie.Need-level-requires
 level-requires c κs = search needs
 
@@ -52,7 +49,6 @@ twice-spec =
     refusal-requires
     enum-known-h
     add-both
-    slice-aggregate-heard
     level-requires
     heard-requires
     returns

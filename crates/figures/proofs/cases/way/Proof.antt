@@ -80,26 +80,14 @@ add-other c =
     let r = c .before .before .before .root .result in
     omega (arith, ap (λ (t : Term). t .up) (c .before .way .ensures), c .before .before .ground .ensures, ground-most 450 r)
 
-slice-aggregate-number : tie.Need-slice-aggregate-number
-slice-aggregate-number c = search needs
-
 number-requires : tie.Need-number-requires
 number-requires c κs = search needs
-
-slice-aggregate-number-2 : tie.Need-slice-aggregate-number-2
-slice-aggregate-number-2 c = search needs
 
 number-requires-2 : tie.Need-number-requires-2
 number-requires-2 c κs = search needs
 
-slice-aggregate-level : tie.Need-slice-aggregate-level
-slice-aggregate-level c = search needs
-
 level-requires : tie.Need-level-requires
 level-requires c κs = search needs
-
-slice-aggregate-number-3 : tie.Need-slice-aggregate-number-3
-slice-aggregate-number-3 c = search needs
 
 cast-number : tie.Need-cast-number
 cast-number c = search needs
@@ -122,13 +110,9 @@ way-spec =
     ground-requires
     way-requires
     add-other
-    slice-aggregate-number
     number-requires
-    slice-aggregate-number-2
     number-requires-2
-    slice-aggregate-level
     level-requires
-    slice-aggregate-number-3
     cast-number
     number-requires-3
     returns)

@@ -34,7 +34,7 @@ loop-holds c =
 seat-requires : tie.Need-seat-requires Inv-loop μ-loop
 seat-requires c κs =
     let start = c .before .before .before .before in
-    (c .loop-test .taken, undamaged (start .args .store .now) (start .pre .1) .0)
+    (omega (arith, c .loop-test .taken), undamaged (start .args .store .now) (start .pre .1) .0)
 
 -- the slot is one of the 64
 within : (t : tie.After-seat Inv-loop μ-loop) → t .before .before .loop .j < length (bookOf (t .before .before .before .before .before .args .store .now) .receivers)
@@ -42,11 +42,14 @@ within t =
     let start = t .before .before .before .before .before in
     omega (arith, sound-book (start .args .store .now) (start .pre .1) .seats, t .before .loop-test .taken)
 
+inside : (t : tie.After-seat Inv-loop μ-loop) → t .before .before .loop .j < 64
+inside t = omega (arith, t .before .loop-test .taken)
+
 meet-requires : tie.Need-meet-requires Inv-loop μ-loop
 meet-requires c κs =
     let t = c .before .before in
     let start = t .before .before .before .before .before in
-    let st = seat-stands (start .args .store .now) (t .before .before .loop .j) (start .pre .1) (t .before .loop-test .taken) (t .seat .result) (t .seat .ensures) (c .if1 .taken) in
+    let st = seat-stands (start .args .store .now) (t .before .before .loop .j) (start .pre .1) (inside t) (t .seat .result) (t .seat .ensures) (c .if1 .taken) in
     (start .pre .0, start .pre .2, start .pre .3, st .0)
 
 enum-known-sums : tie.Need-enum-known-sums Inv-loop μ-loop
@@ -72,8 +75,8 @@ loop-again c =
     let a = start .args in
     let l = bookOf (a .store .now) .receivers in
     let s = a .store .now in
-    let used = seat-used s (lp .loop .j) (start .pre .1) (t .before .loop-test .taken) (t .seat .result) (t .seat .ensures) (c .before .before .before .before .before .if1 .taken) in
-    (omega arith, round-moved (turnOf (a .adding) (a .s)) l (lp .loop .late) (lp .loop .seats) (lp .loop .j) (within t) (t .before .loop-test .taken) (lp .loop .inv .1) (t .seat .result .held) _ used (sym (c .before .before .before .before .meet .ensures) ∙ c .before .before .sums .given .1))
+    let used = seat-used s (lp .loop .j) (start .pre .1) (inside t) (t .seat .result) (t .seat .ensures) (c .before .before .before .before .before .if1 .taken) in
+    (omega arith, round-moved (turnOf (a .adding) (a .s)) l (lp .loop .late) (lp .loop .seats) (lp .loop .j) (within t) (inside t) (lp .loop .inv .1) (t .seat .result .held) _ used (sym (c .before .before .before .before .meet .ensures) ∙ c .before .before .sums .given .1))
 
 enum-told : tie.Need-enum-told Inv-loop μ-loop
 enum-told c = search needs
@@ -92,8 +95,8 @@ loop-again-2 c =
     let a = start .args in
     let l = bookOf (a .store .now) .receivers in
     let s = a .store .now in
-    let used = seat-used s (lp .loop .j) (start .pre .1) (t .before .loop-test .taken) (t .seat .result) (t .seat .ensures) (c .before .before .before .if1 .taken) in
-    (omega arith, round-late (turnOf (a .adding) (a .s)) l (lp .loop .late) (lp .loop .seats) (lp .loop .j) (within t) (t .before .loop-test .taken) (lp .loop .inv .1) (t .seat .result .held) used (sym (c .before .before .meet .ensures) ∙ c .enum-told .given .1))
+    let used = seat-used s (lp .loop .j) (start .pre .1) (inside t) (t .seat .result) (t .seat .ensures) (c .before .before .before .if1 .taken) in
+    (omega arith, round-late (turnOf (a .adding) (a .s)) l (lp .loop .late) (lp .loop .seats) (lp .loop .j) (within t) (inside t) (lp .loop .inv .1) (t .seat .result .held) used (sym (c .before .before .meet .ensures) ∙ c .enum-told .given .1))
 
 enum-known-bar : tie.Need-enum-known-bar Inv-loop μ-loop
 enum-known-bar c = search needs
@@ -112,9 +115,9 @@ returns c =
     let a = start .args in
     let l = bookOf (a .store .now) .receivers in
     let s = a .store .now in
-    let used = seat-used s (lp .loop .j) (start .pre .1) (t .before .loop-test .taken) (t .seat .result) (t .seat .ensures) (c .before .before .before .before .before .if1 .taken) in
+    let used = seat-used s (lp .loop .j) (start .pre .1) (inside t) (t .seat .result) (t .seat .ensures) (c .before .before .before .before .before .if1 .taken) in
     round-stopped (turnOf (a .adding) (a .s)) l _ _ (ap At (c .bar-at .ensures))
-    (round-barred (turnOf (a .adding) (a .s)) l (lp .loop .late) (lp .loop .seats) (lp .loop .j) (within t) (t .before .loop-test .taken) (lp .loop .inv .1) (t .seat .result .held) _ used (sym (c .before .before .before .before .meet .ensures) ∙ c .before .before .bar .given .1))
+    (round-barred (turnOf (a .adding) (a .s)) l (lp .loop .late) (lp .loop .seats) (lp .loop .j) (within t) (inside t) (lp .loop .inv .1) (t .seat .result .held) _ used (sym (c .before .before .before .before .meet .ensures) ∙ c .before .before .bar .given .1))
 
 add-j-3 : tie.Need-add-j-3 Inv-loop μ-loop
 add-j-3 c = omega arith
@@ -130,8 +133,8 @@ loop-again-3 c =
     let a = start .args in
     let l = bookOf (a .store .now) .receivers in
     let s = a .store .now in
-    let free = seat-free s (lp .loop .j) (start .pre .1) (t .before .loop-test .taken) (t .seat .result) (t .seat .ensures) (c .if1 .left) in
-    (omega arith, round-free (turnOf (a .adding) (a .s)) l (lp .loop .late) (lp .loop .seats) (lp .loop .j) (within t) (t .before .loop-test .taken) (lp .loop .inv .1) free)
+    let free = seat-free s (lp .loop .j) (start .pre .1) (inside t) (t .seat .result) (t .seat .ensures) (c .if1 .left) in
+    (omega arith, round-free (turnOf (a .adding) (a .s)) l (lp .loop .late) (lp .loop .seats) (lp .loop .j) (within t) (inside t) (lp .loop .inv .1) free)
 
 returns-2 : tie.Need-returns-2 Inv-loop μ-loop
 returns-2 c =

@@ -19,10 +19,10 @@ use Rattle.ledger.proofs.round.write_seats.Statement.{statement}
 use Rattle.ledger.proofs.round.write_seats.Tie as tie
 
 abbrev Inv-loop : tie.InvT-loop
-Inv-loop store₀ seats j₀ store j = (j ≤ 64) × Holds store (book (bookOf store₀ .sources) (seated (take j seats) (bookOf store₀ .receivers)))
+Inv-loop store₀ seats k₀ store k = (k ≤ 64) × Holds store (book (bookOf store₀ .sources) (seated (take k seats) (bookOf store₀ .receivers)))
 
 abbrev μ-loop : tie.MeasureT-loop
-μ-loop store₀ seats j₀ store j = 64 - j
+μ-loop store₀ seats k₀ store k = 64 - k
 
 loop-holds : tie.Need-loop-holds Inv-loop μ-loop
 unfolding seated
@@ -37,10 +37,10 @@ array-copy-out-seat c = search needs
 settle-requires : tie.Need-settle-requires Inv-loop μ-loop
 settle-requires c κs =
     let lp = c .before .before .before in
-    (lp .loop .inv .1 .whole, c .before .before .loop-test .taken, lp .before .before .pre .1 .stand (lp .loop .j))
+    (lp .loop .inv .1 .whole, c .before .before .loop-test .taken, lp .before .before .pre .1 .stand (lp .loop .k))
 
-add-j : tie.Need-add-j Inv-loop μ-loop
-add-j c = omega arith
+add-k : tie.Need-add-k Inv-loop μ-loop
+add-k c = omega arith
 
 loop-less : tie.Need-loop-less Inv-loop μ-loop
 loop-less c = omega arith
@@ -51,12 +51,12 @@ loop-again c =
     let lp = st .before .before .before .before in
     let start = lp .before .before in
     let s = start .args .store .now in
-    let j = lp .loop .j in
+    let k = lp .loop .k in
     let l = bookOf s .receivers in
-    let now = seat-holds (lp .loop .store) _ (book (bookOf s .sources) (seated (take j (start .args .t2)) l)) j (getD (start .args .t2) j vacant) (lp .loop .inv .1) (start .pre .1 .stand j) (st .settle .ensures) in
-    let next : seated (take (j + 1) (start .args .t2)) l ≡ _ =
-    ap (λ (n : ℕ). seated (take n (start .args .t2)) l) (add-one j)
-    ∙ seated-next (start .args .t2) l j (omega (arith, start .pre .1 .count, st .before .before .before .loop-test .taken)) (omega (arith, sound-book s (start .pre .0) .seats, st .before .before .before .loop-test .taken)) in
+    let now = seat-holds (lp .loop .store) _ (book (bookOf s .sources) (seated (take k (start .args .t2)) l)) k (getD (start .args .t2) k vacant) (lp .loop .inv .1) (start .pre .1 .stand k) (st .settle .ensures) in
+    let next : seated (take (k + 1) (start .args .t2)) l ≡ _ =
+    ap (λ (n : ℕ). seated (take n (start .args .t2)) l) (add-one k)
+    ∙ seated-next (start .args .t2) l k (omega (arith, start .pre .1 .count, st .before .before .before .loop-test .taken)) (omega (arith, sound-book s (start .pre .0) .seats, st .before .before .before .loop-test .taken)) in
     (omega arith, rw next now)
 
 same-length : tie.Need-same-length Inv-loop μ-loop
@@ -70,8 +70,8 @@ returns c =
     let s = start .args .store .now in (
       c .before .loop .inv .1 .whole,
       c .before .loop .inv .1 .is
-          ∙ ap (λ (m : List Seat). book (bookOf s .sources) (seated m (bookOf s .receivers))) (take-all (c .before .loop .j) (start .args .t2) (omega (arith, start .pre .1 .count, c .loop-test .left))),
+          ∙ ap (λ (m : List Seat). book (bookOf s .sources) (seated m (bookOf s .receivers))) (take-all (c .before .loop .k) (start .args .t2) (omega (arith, start .pre .1 .count, c .loop-test .left))),
     )
 
 pub write-seats-spec : {M : Type 1} → statement M
-write-seats-spec = tie.close (tie.spec Inv-loop μ-loop loop-holds mul-seat array-copy-out-seat settle-requires add-j loop-less loop-again same-length returns)
+write-seats-spec = tie.close (tie.spec Inv-loop μ-loop loop-holds mul-seat array-copy-out-seat settle-requires add-k loop-less loop-again same-length returns)
