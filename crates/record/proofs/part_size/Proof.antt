@@ -38,7 +38,7 @@ unfolding partOf
 returns-2 c =
     let s = now (c .before .before .before .before .before .args .job) in
     let t = ap (λ (r : Reading). r .told) (sym (c .before .before .read .ensures)) ∙ c .enum-told2 .given .1 in
-    (omega arith, ap (λ (x : Told). partBy x s) (sym t))
+    (omega (arith, c .before .before .before .extent .ensures, extent-le s), ap (λ (x : Told). partBy x s) (sym t))
 
 pub part-size-spec : {M : Type 1} → statement M
 part-size-spec =
