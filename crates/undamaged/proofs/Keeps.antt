@@ -37,8 +37,8 @@ keep-allowed : (v : Verdict) (k : Step) → (v ≡ Allowed → Keep k) → Keep 
 keep-allowed Allowed k f = f refl
 keep-allowed (Barring r) k f = tt
 
-keep-free : {A : Type 0} (o : Option A) (k : Step) → Keep k → Keep (intoFree o k)
-keep-free none k f = f
+keep-free : {A : Type 0} (o : Option A) (k : Step) → (o ≡ none → Keep k) → Keep (intoFree o k)
+keep-free none k f = f refl
 keep-free (some a) k f = tt
 
 keep-used : {A : Type 0} (o : Option A) (k : A → Step) → ((a : A) → Keep (k a)) → Keep (fromUsed o k)
@@ -79,12 +79,12 @@ module _ (b : Book) (h : SoundBook b) where
   unfolding placeSource
   source-in i s n =
       keep-allowed (slotVerdict lastSource i (sourceVerdict s)) _ λ v.
-      keep-free (getD (b .sources) i none) _
-      (keep-unbarred (firstBar (λ (x : Held). pairOf s (x .who)) 0 (b .receivers)) _ λ o.
+      keep-free (getD (b .sources) i none) _ λ w.
+      keep-unbarred (firstBar (λ (x : Held). pairOf s (x .who)) 0 (b .receivers)) _ λ o.
       keep-intime (every (hasRoom s) (present (b .receivers))) _ λ t.
       sound-source (book (b .sources) (map (omap (more s)) (b .receivers))) i (some s)
       (moved-sound b (more s) (hasRoom s) h t (λ x st r. (st .0, r)))
-      (λ (a : Source) e. (let same : s ≡ a = cc in subst SourceStands same (slot-allowed lastSource i (sourceVerdict s) v .1, n))))
+      (λ (a : Source) e. (let same : s ≡ a = cc in subst SourceStands same (slot-allowed lastSource i (sourceVerdict s) v .1, n)))
 
   pub source-out : (i : ℕ) → Keep (withdrawSource i b)
   unfolding withdrawSource
@@ -100,8 +100,8 @@ module _ (b : Book) (h : SoundBook b) where
   unfolding placeReceiver
   receiver-in j r =
       keep-allowed (slotVerdict lastReceiver j (receiverVerdict r)) _ λ v.
-      keep-free (getD (b .receivers) j none) _
-      (keep-unbarred (firstBar (λ (s : Source). pairOf s r) 0 (b .sources)) _ λ o.
+      keep-free (getD (b .receivers) j none) _ λ w.
+      keep-unbarred (firstBar (λ (s : Source). pairOf s r) 0 (b .sources)) _ λ o.
       sound-held b j (some (weigh (present (b .sources)) r)) h
       (λ (a : Held) e. (
       let same : weigh (present (b .sources)) r ≡ a = cc in
@@ -109,7 +109,7 @@ module _ (b : Book) (h : SoundBook b) where
         slot-allowed lastReceiver j (receiverVerdict r) v .1,
         weigh-sound (b .sources) r (h .lanes ∙ sym lanes-are) (bars-pass (λ (s : Source). pairOf s r) 0 (b .sources) o),
       )
-      )))
+      ))
 
   pub receiver-out : (j : ℕ) → Keep (withdrawReceiver j b)
   unfolding withdrawReceiver

@@ -1,6 +1,5 @@
 // The calls of the book on a store that is known to be undamaged, with the level table lent: no look for damage.
-// What each answers and leaves is a definition of specs/Calls.antt, and the store stays undamaged: so whoever watches a store from
-// its clearing on can use these.
+// What each answers and leaves is a definition of specs/Calls.antt; the store stays undamaged, so that the next call can follow.
 use answer::Refusal;
 use index::Index;
 use ledger::gather;
