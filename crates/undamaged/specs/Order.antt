@@ -1,0 +1,52 @@
+-- In which order a call refuses (document 01: the lowest number that applies, 10 to 13 pair by pair, the late 1 after all else).
+-- Each line says what is answered whatever holds of the tests behind it; `in-order` of proofs/Order.antt proves them.
+use Prim.Native.Nat.{ℕ}
+use mathlib.Core.Path.{_≡_}
+use mathlib.Core.Bool.{true, false}
+use mathlib.Core.Option.{none, some}
+use lib.ListN.{getD}
+use Rattle.answer.specs.declared.Refusal.{Refusal}
+use Rattle.answer.specs.declared.Refusal.the-variants.{Damaged, Taken}
+use Rattle.road.specs.declared.Source.{Source}
+use Rattle.road.specs.declared.Receiver.{Receiver}
+use Rattle.road.specs.declared.Verdict.{Verdict}
+use Rattle.road.specs.declared.Verdict.the-variants.{Allowed, Refused}
+use Rattle.road.specs.Reach.{pairOf}
+use Rattle.road.specs.Judge.{sourceVerdict, receiverVerdict, slotVerdict, lastSource, lastReceiver}
+use Rattle.store.specs.declared.Held.{Held}
+use Rattle.store.specs.Store.{Book}
+use Rattle.ledger.specs.Lists.{present, every, firstBar}
+use Rattle.undamaged.specs.Calls.{refuse, hasRoom, placeSource, placeReceiver}
+
+-- the verdict on slot and fields, and the first pair that is barred
+abbrev pub sourceJudged : ℕ → Source → Verdict
+sourceJudged i s = slotVerdict lastSource i (sourceVerdict s)
+
+abbrev pub receiverJudged : ℕ → Receiver → Verdict
+receiverJudged j r = slotVerdict lastReceiver j (receiverVerdict r)
+
+pub record SourceOrder (i : ℕ) (s : Source) (b : Book) : Type 0 where
+  -- 5, 6 and 7
+  pub fields-first : (why : Refusal) → sourceJudged i s ≡ Refused why → placeSource i s b ≡ refuse why
+  -- 8
+  pub then-taken : (a : Source) → sourceJudged i s ≡ Allowed → getD (b .sources) i none ≡ some a → placeSource i s b ≡ refuse Taken
+  -- 10 to 13
+  pub then-barred : (why : Refusal) → sourceJudged i s ≡ Allowed → getD (b .sources) i none ≡ none
+      → firstBar (λ (x : Held). pairOf s (x .who)) 0 (b .receivers) ≡ some why → placeSource i s b ≡ refuse why
+  -- the late 1
+  pub then-late : sourceJudged i s ≡ Allowed → getD (b .sources) i none ≡ none
+      → firstBar (λ (x : Held). pairOf s (x .who)) 0 (b .receivers) ≡ none → every (hasRoom s) (present (b .receivers)) ≡ false
+      → placeSource i s b ≡ refuse Damaged
+
+pub record ReceiverOrder (j : ℕ) (r : Receiver) (b : Book) : Type 0 where
+  -- 5
+  pub fields-first : (why : Refusal) → receiverJudged j r ≡ Refused why → placeReceiver j r b ≡ refuse why
+  -- 8
+  pub then-taken : (a : Held) → receiverJudged j r ≡ Allowed → getD (b .receivers) j none ≡ some a → placeReceiver j r b ≡ refuse Taken
+  -- 10 to 13
+  pub then-barred : (why : Refusal) → receiverJudged j r ≡ Allowed → getD (b .receivers) j none ≡ none
+      → firstBar (λ (s : Source). pairOf s r) 0 (b .sources) ≡ some why → placeReceiver j r b ≡ refuse why
+
+pub record InOrder : Type 0 where
+  pub source : (i : ℕ) (s : Source) (b : Book) → SourceOrder i s b
+  pub receiver : (j : ℕ) (r : Receiver) (b : Book) → ReceiverOrder j r b
