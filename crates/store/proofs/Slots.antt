@@ -35,10 +35,10 @@ zeros-are : (n : ℕ) → allZero (replicate n 0) ≡ true
 zeros-are zero = refl
 zeros-are (suc n) = zeros-are n
 
-pub zeros-bytes : (n : ℕ) → Bytes (replicate n 0)
-zeros-bytes zero i = lit< tt
-zeros-bytes (suc n) zero = lit< tt
-zeros-bytes (suc n) (suc i) = zeros-bytes n i
+pub alike-bytes : (n x : ℕ) → x < 256 → Bytes (replicate n x)
+alike-bytes zero x h i = lit< tt
+alike-bytes (suc n) x h zero = h
+alike-bytes (suc n) x h (suc i) = alike-bytes n x h i
 
 pub zeros-within : (ws : List ℕ) → Within ws (replicate (length ws) 0)
 zeros-within [] = tt
@@ -138,12 +138,12 @@ module _ {A : Type 0} (p : Party A) where
 
   pub length-slot : (o : Option A) → length (slotBytes p o) ≡ slotSize p
   unfolding slotBytes
-  length-slot none = length-replicate {A = ℕ} (slotSize p) 0
+  length-slot none = length-replicate {A = ℕ} (slotSize p) _
   length-slot (some a) = length-packed (layoutOf p) (1 ∷ p .to a)
 
   pub slot-bytes : (o : Option A) → Bytes (slotBytes p o)
   unfolding slotBytes
-  slot-bytes none = zeros-bytes (slotSize p)
+  slot-bytes none = alike-bytes (slotSize p) _ (lit< tt)
   slot-bytes (some a) = packed-bytes (layoutOf p) (1 ∷ p .to a)
 
   -- a slot as its mark says is the slot as it is found, where it is not torn
