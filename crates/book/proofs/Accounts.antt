@@ -10,7 +10,7 @@ use borrow.Author.Tests.{le-leb}
 use Rattle.road.specs.declared.Source.{Source}
 use Rattle.road.specs.declared.Receiver.{Receiver}
 use Rattle.road.specs.Reach.{shareOf, sharesOf}
-use Rattle.store.specs.Account.{coversB}
+use Rattle.store.specs.Account.{covers}
 use Rattle.ledger.specs.Lists.{weigh}
 use Rattle.undamaged.specs.Calls.{more, less}
 use Rattle.undamaged.proofs.Sums.{and-both}
@@ -42,7 +42,7 @@ module _ (s : Source) (ss : List Source) (r : Receiver) where
     };
   }
 
-  pub covers-is : coversB (weigh (s ∷ ss) r .sums) (sharesOf s r) ≡ true
+  pub covers-is : covers (weigh (s ∷ ss) r .sums) (sharesOf s r) ≡ true
   unfolding sharesOf
   covers-is =
       and-both (and-both (le-leb _ (shareOf s r 0 + total ss r 0) (omega arith)) (le-leb _ (shareOf s r 1 + total ss r 1) (omega arith)))

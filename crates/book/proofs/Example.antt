@@ -11,7 +11,7 @@ use lib.ListN.{getD}
 use borrow.Author.Tests.{eqb-true, le-ltb}
 use Rattle.answer.specs.declared.Refusal.the-variants.{Taken}
 use Rattle.level.specs.Table.{table, firstQuarter, secondQuarter, thirdQuarter, fourthQuarter}
-use Rattle.level.specs.Level.{energyOf, levelOf, upTo, decades, heardOf}
+use Rattle.level.specs.Level.{energyOf, levelOf, upTo, decades, loudnessOf}
 use Rattle.level.specs.Figures.{Figure, right, levels}
 use Rattle.road.specs.declared.Term.{Term}
 use Rattle.road.specs.declared.Source.{Source}
@@ -114,7 +114,7 @@ abbrev given : ℕ → ℕ → ℕ → Answer
 given a b c = Levels (ldenOf (a + 0) (b + 0) (c + 0)) (lnightOf (c + 0))
 
 energies : given (energyOf 6028) (energyOf 6028) (energyOf 5028) ≡ Levels (Tenths 616) (Tenths 503)
-unfolding energyOf heardOf levelOf upTo decades table firstQuarter secondQuarter thirdQuarter fourthQuarter
+unfolding energyOf loudnessOf levelOf upTo decades table firstQuarter secondQuarter thirdQuarter fourthQuarter
 energies = refl
 
 -- L_DEN 61.6, L_Night 50.3
@@ -123,7 +123,7 @@ unfolding shareOf
 near-levels = (λ i. given (energy (level 0) 6027 day i) (energy (level 1) 6027 evening i) (energy (level 2) 5027 night i)) ∙ energies
 
 silence : levelsOf [] home ≡ Levels Quiet Quiet
-unfolding heardOf
+unfolding loudnessOf
 silence = refl
 
 -- ---- the history: the latest call first

@@ -14,7 +14,7 @@ use Rattle.road.specs.declared.Verdict.the-variants.{Allowed}
 use Rattle.road.specs.Reach.{sharesOf, pairOf}
 use Rattle.road.specs.Judge.{sourceVerdict, receiverVerdict, slotVerdict, lastSource, lastReceiver}
 use Rattle.store.specs.declared.Held.{Held}
-use Rattle.store.specs.Account.{soundB, coversB}
+use Rattle.store.specs.Account.{soundB, covers}
 use Rattle.store.specs.Store.{Book, book, sourceSlots, receiverSlots, SourceStands, HeldStands, SoundBook}
 use Rattle.undamaged.specs.declared.Answer.{Answer}
 use Rattle.ledger.specs.Lists.{omap, present, every, firstBar, weigh, All}
@@ -154,7 +154,7 @@ module _ (lane : ℕ → Option Source) (seat : ℕ → Option Receiver) where
         ∙ every-all (λ r. canReturn s (afresh r)) (present R)
         (all-map (HearsAll (present S)) (λ r. canReturn s (afresh r) ≡ true)
         (λ r q. and-both (all-at (λ s. Hears s r) S i s q there)
-        (ap (λ (x : Held). coversB (x .sums) (sharesOf s r)) (gone r) ∙ covers-is s (present (set S i none)) r))
+        (ap (λ (x : Held). covers (x .sums) (sharesOf s r)) (gone r) ∙ covers-is s (present (set S i none)) r))
         (present R) p)
 
   pub withdraw-source : (i : ℕ) → Standing S R → Leads (WithdrawSource i) (withdrawSource i (fill S R))

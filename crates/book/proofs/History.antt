@@ -16,7 +16,7 @@ use Rattle.answer.proofs.Settled.{settled}
 use Rattle.road.specs.declared.Source.{Source}
 use Rattle.road.specs.declared.Receiver.{Receiver}
 use Rattle.store.specs.declared.Held.{Held}
-use Rattle.store.specs.Store.{Book, damaged, bookOf, bytesOf, storeLength, clearedBytes, emptyBook, book, sourceSlots, receiverSlots, SourceStands}
+use Rattle.store.specs.Store.{Book, damaged, bookOf, bookBytes, storeLength, clearedBytes, emptyBook, book, sourceSlots, receiverSlots, SourceStands}
 use Rattle.store.specs.Store.{SoundBook}
 use Rattle.undamaged.specs.declared.Answer.{Answer}
 use Rattle.undamaged.specs.declared.Answer.the-variants.{Done, Levels, Refused}
@@ -170,7 +170,7 @@ module _ (laws : StoreLaws) where
   fits-told b k c H (change x) p = record {
     holds = λ real.
         let ok : SoundBook x = subst SoundBook (sym (p .1 .0)) (standing-sound _ _ (p .1 .1 real)) in
-        holds-next (bytesOf x) k c (laws .book-back x ok ∙ p .1 .0, p .1 .1) (laws .book-sound x ok) real;
+        holds-next (bookBytes x) k c (laws .book-back x ok ∙ p .1 .0, p .1 .1) (laws .book-sound x ok) real;
     sound = λ e. never cc;
     rule = (λ e. p .0, λ n. refl);
   }

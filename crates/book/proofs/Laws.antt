@@ -2,14 +2,14 @@
 -- Assumes nothing: the laws are a parameter of what rests on them, and `store-laws` are those of this project's store.
 use mathlib.Core.Path.{_≡_}
 use mathlib.Core.Bool.{false}
-use Rattle.store.specs.Store.{Book, damaged, bookOf, bytesOf, clearedBytes, emptyBook, SoundBook}
+use Rattle.store.specs.Store.{Book, damaged, bookOf, bookBytes, clearedBytes, emptyBook, SoundBook}
 use Rattle.store.proofs.Laws.{cleared, book-bytes}
 
 pub record StoreLaws : Type 0 where
   pub cleared-sound : damaged clearedBytes ≡ false
   pub cleared-book : bookOf clearedBytes ≡ emptyBook
-  pub book-sound : (b : Book) → SoundBook b → damaged (bytesOf b) ≡ false
-  pub book-back : (b : Book) → SoundBook b → bookOf (bytesOf b) ≡ b
+  pub book-sound : (b : Book) → SoundBook b → damaged (bookBytes b) ≡ false
+  pub book-back : (b : Book) → SoundBook b → bookOf (bookBytes b) ≡ b
 
 pub store-laws : StoreLaws
 store-laws = record {

@@ -20,12 +20,12 @@ use Rattle.road.proofs.Fit.{passed}
 use Rattle.road.proofs.Judged.{slot-allowed}
 use Rattle.road.proofs.Periods.{periods-again}
 use Rattle.road.specs.Judge.{sourceFields, sourceLeast, sourceMost, receiverFields, receiverLeast, receiverMost, unlessOutside, slowSurface, quietTruck, sourceVerdict, receiverVerdict, lastSource, lastReceiver}
-use Rattle.codec.specs.declared.Call.{Call}
-use Rattle.codec.specs.declared.Call.the-variants.{PlaceReceiver, WithdrawReceiver, PlaceSource, WithdrawSource, Ask}
+use Rattle.codec.specs.declared.Request.{Request}
+use Rattle.codec.specs.declared.Request.the-variants.{PlaceReceiver, WithdrawReceiver, PlaceSource, WithdrawSource, Ask}
 use Rattle.codec.specs.Record.{recordOf}
 use Rattle.codec.specs.Inner.{filled, firstOf}
 use Rattle.codec.proofs.Laws.{first-filled}
-use Rattle.codec.specs.Kinds.{at, kindAt, layoutOf, leftoverOf, verdictOf, numberOf, fieldsOf, sourceWith}
+use Rattle.codec.specs.Kinds.{at, kindAt, layoutOf, leftoverOf, verdictOf, kindNumber, fieldsOf, sourceWith}
 
 -- ---- an allowed call has fields that fit
 
@@ -59,7 +59,7 @@ source-within s e =
     inside-within roadWidths (sourceLeast s) (sourceMost s) (sourceFields s) (most-under s) refl
     (all-inside (sourceLeast s) (sourceMost s) (sourceFields s) (cond (slowSurface s) (Refused SlowSurface) (cond (quietTruck s) (Refused QuietTruck) Allowed)) e)
 
-pub call-within : (c : Call) (s : Source) → verdictOf c s ≡ Allowed → Within (layoutOf (numberOf c)) (fieldsOf c s)
+pub call-within : (c : Request) (s : Source) → verdictOf c s ≡ Allowed → Within (layoutOf (kindNumber c)) (fieldsOf c s)
 unfolding kindAt verdictOf
 call-within (PlaceReceiver slot r) s e =
     let a = slot-allowed lastReceiver slot (receiverVerdict r) e in
@@ -74,7 +74,7 @@ call-within (Ask slot) s e = (lit< tt, (omega (arith, slot-allowed lastReceiver 
 
 -- ---- from a call to its fields and back
 
-pub call-length : (c : Call) (s : Source) → length (fieldsOf c s) ≡ length (layoutOf (numberOf c))
+pub call-length : (c : Request) (s : Source) → length (fieldsOf c s) ≡ length (layoutOf (kindNumber c))
 unfolding kindAt
 call-length (PlaceReceiver slot r) s = refl
 call-length (WithdrawReceiver slot) s = refl
@@ -82,7 +82,7 @@ call-length (PlaceSource slot) s = refl
 call-length (WithdrawSource slot) s = refl
 call-length (Ask slot) s = refl
 
-pub call-listed : (c : Call) → 0 < size (layoutOf (numberOf c))
+pub call-listed : (c : Request) → 0 < size (layoutOf (kindNumber c))
 unfolding kindAt
 call-listed (PlaceReceiver slot r) = lit< tt
 call-listed (WithdrawReceiver slot) = lit< tt
@@ -90,14 +90,14 @@ call-listed (PlaceSource slot) = lit< tt
 call-listed (WithdrawSource slot) = lit< tt
 call-listed (Ask slot) = lit< tt
 
-pub call-kind : (c : Call) (s : Source) → at (fieldsOf c s) 0 ≡ numberOf c
+pub call-kind : (c : Request) (s : Source) → at (fieldsOf c s) 0 ≡ kindNumber c
 call-kind (PlaceReceiver slot r) s = refl
 call-kind (WithdrawReceiver slot) s = refl
 call-kind (PlaceSource slot) s = refl
 call-kind (WithdrawSource slot) s = refl
 call-kind (Ask slot) s = refl
 
-pub call-leftover : (c : Call) (s : Source) → leftoverOf (numberOf c) (fieldsOf c s) ≡ 0
+pub call-leftover : (c : Request) (s : Source) → leftoverOf (kindNumber c) (fieldsOf c s) ≡ 0
 unfolding kindAt
 call-leftover (PlaceReceiver slot r) s = refl
 call-leftover (WithdrawReceiver slot) s = refl
@@ -105,7 +105,7 @@ call-leftover (PlaceSource slot) s = refl
 call-leftover (WithdrawSource slot) s = refl
 call-leftover (Ask slot) s = refl
 
-pub call-again : (c : Call) (s : Source) → kindAt (numberOf c) .call (at (fieldsOf c s)) ≡ c
+pub call-again : (c : Request) (s : Source) → kindAt (kindNumber c) .call (at (fieldsOf c s)) ≡ c
 unfolding kindAt
 call-again (PlaceReceiver slot r) s = refl
 call-again (WithdrawReceiver slot) s = refl
@@ -113,7 +113,7 @@ call-again (PlaceSource slot) s = refl
 call-again (WithdrawSource slot) s = refl
 call-again (Ask slot) s = refl
 
-pub source-again : (c : Call) (s : Source) → length (s .traffic) ≡ 3 → kindAt (numberOf c) .source (at (fieldsOf c s)) ≡ sourceWith c s
+pub source-again : (c : Request) (s : Source) → length (s .traffic) ≡ 3 → kindAt (kindNumber c) .source (at (fieldsOf c s)) ≡ sourceWith c s
 unfolding kindAt
 source-again (PlaceReceiver slot r) s h = refl
 source-again (WithdrawReceiver slot) s h = refl
@@ -122,7 +122,7 @@ source-again (WithdrawSource slot) s h = refl
 source-again (Ask slot) s h = refl
 
 -- a source counts only beside PlaceSource
-pub verdict-with : (c : Call) (s : Source) → verdictOf c (sourceWith c s) ≡ verdictOf c s
+pub verdict-with : (c : Request) (s : Source) → verdictOf c (sourceWith c s) ≡ verdictOf c s
 unfolding verdictOf
 verdict-with (PlaceReceiver slot r) s = refl
 verdict-with (WithdrawReceiver slot) s = refl
@@ -132,12 +132,12 @@ verdict-with (Ask slot) s = refl
 
 -- ---- the fields of a call in the writer's array
 
-module _ (c : Call) (s : Source) (k : ℕ) (v : List ℕ) (e : k ≡ numberOf c) (f : v ≡ filled (fieldsOf c s)) where
+module _ (c : Request) (s : Source) (k : ℕ) (v : List ℕ) (e : k ≡ kindNumber c) (f : v ≡ filled (fieldsOf c s)) where
   first-fields : firstOf k v ≡ fieldsOf c s
-  first-fields = (λ i. firstOf (e i) (f i)) ∙ first-filled (numberOf c) (fieldsOf c s) (call-length c s)
+  first-fields = (λ i. firstOf (e i) (f i)) ∙ first-filled (kindNumber c) (fieldsOf c s) (call-length c s)
 
   pub written-within : verdictOf c s ≡ Allowed → Within (layoutOf k) (firstOf k v)
-  written-within h = subst⁻¹ (λ (j : ℕ). Within (layoutOf j) (firstOf k v)) e (subst⁻¹ (Within (layoutOf (numberOf c))) first-fields (call-within c s h))
+  written-within h = subst⁻¹ (λ (j : ℕ). Within (layoutOf j) (firstOf k v)) e (subst⁻¹ (Within (layoutOf (kindNumber c))) first-fields (call-within c s h))
 
   pub written-record : packed (layoutOf k) (firstOf k v) ≡ recordOf c s
   unfolding recordOf
@@ -145,7 +145,7 @@ module _ (c : Call) (s : Source) (k : ℕ) (v : List ℕ) (e : k ≡ numberOf c)
 
 -- ---- from fields to their call and back
 
-pub kind-again : (k : ℕ) (field : ℕ → ℕ) → 0 < size (layoutOf k) → numberOf (kindAt k .call field) ≡ k
+pub kind-again : (k : ℕ) (field : ℕ → ℕ) → 0 < size (layoutOf k) → kindNumber (kindAt k .call field) ≡ k
 unfolding kindAt
 kind-again zero field h = absurd (omega arith)
 kind-again (suc zero) field h = refl

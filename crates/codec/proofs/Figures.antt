@@ -8,8 +8,8 @@ use Rattle.layout.specs.Layout as layout
 use Rattle.layout.specs.Layout.{num, bits, fields, packed}
 use Rattle.road.specs.declared.Receiver.{Receiver}
 use Rattle.road.specs.Judge.{receiverVerdict}
-use Rattle.codec.specs.declared.Call.the-variants.{PlaceReceiver, Ask}
-use Rattle.codec.specs.declared.Told.the-variants.{Call}
+use Rattle.codec.specs.declared.Request.the-variants.{PlaceReceiver, Ask}
+use Rattle.codec.specs.declared.Told.the-variants.{Request}
 use Rattle.codec.specs.declared.Written.{Written}
 use Rattle.codec.specs.declared.Written.the-variants.{Done}
 use Rattle.codec.specs.Kinds.{blank, kindAt, verdictOf}
@@ -26,7 +26,7 @@ homeBytes = 17 ∷ 64 ∷ 97 ∷ 168 ∷ 0 ∷ 97 ∷ 168 ∷ 50 ∷ 0 ∷ []
 abbrev askBytes : List ℕ
 askBytes = 81 ∷ 64 ∷ []
 
-pub home-read : readOf homeBytes ≡ reading (Call (PlaceReceiver 5 home)) blank
+pub home-read : readOf homeBytes ≡ reading (Request (PlaceReceiver 5 home)) blank
 unfolding readOf kindAt verdictOf receiverVerdict bits num fields
 home-read = refl
 
@@ -34,7 +34,7 @@ pub home-written : _≡_ {A = Written × List ℕ} (writeOf (PlaceReceiver 5 hom
 unfolding writeOf recordOf kindAt verdictOf receiverVerdict packed layout.bytesOf
 home-written = refl
 
-pub ask-read : readOf askBytes ≡ reading (Call (Ask 5)) blank
+pub ask-read : readOf askBytes ≡ reading (Request (Ask 5)) blank
 unfolding readOf kindAt verdictOf bits num fields
 ask-read = refl
 

@@ -19,12 +19,12 @@ use Rattle.answer.specs.declared.Refusal.the-variants.{CutShort, UnknownKind, L
 use Rattle.road.specs.declared.Source.{Source}
 use Rattle.road.specs.declared.Verdict.{Verdict}
 use Rattle.road.specs.declared.Verdict.the-variants as verdict
-use Rattle.codec.specs.declared.Call.{Call}
-use Rattle.codec.specs.declared.Call.the-variants.{Ask}
+use Rattle.codec.specs.declared.Request.{Request}
+use Rattle.codec.specs.declared.Request.the-variants.{Ask}
 use Rattle.codec.specs.declared.Told.the-variants as told
 use Rattle.codec.specs.declared.Written.{Written}
 use Rattle.codec.specs.declared.Written.the-variants as written
-use Rattle.codec.specs.Kinds.{at, blank, kindAt, layoutOf, leftoverOf, verdictOf, numberOf, fieldsOf}
+use Rattle.codec.specs.Kinds.{at, blank, kindAt, layoutOf, leftoverOf, verdictOf, kindNumber, fieldsOf}
 use Rattle.codec.specs.Record.{kindOf, lengthOf, valuesOf, cutShort, unknownKind, leftoverSet, reading, refused, judged, heardBy, heard, readOf, extentOf, recordOf, writtenBy, writeOf}
 use Rattle.codec.specs.Inner.{filled, firstOf}
 use Rattle.codec.proofs.Rows.{row-begun}
@@ -113,14 +113,14 @@ extent-le s = go (leb (lengthOf s) (length s)) refl
 
 -- ---- what fields tell
 
-module _ (k : ℕ) (v : List ℕ) (call : Call) (source : Source) (e : call ≡ kindAt k .call (at v)) (f : source ≡ kindAt k .source (at v)) where
+module _ (k : ℕ) (v : List ℕ) (call : Request) (source : Source) (e : call ≡ kindAt k .call (at v)) (f : source ≡ kindAt k .source (at v)) where
   heard-by : heardBy call source ≡ heard k v
   heard-by = λ i. heardBy (e i) (f i)
 
   pub heard-refused : (why : Refusal) → verdictOf call source ≡ verdict.Refused why → refused why ≡ heard k v
   heard-refused why h = sym (ap (λ (x : Verdict). judged x call source) h) ∙ heard-by
 
-  pub heard-allowed : verdictOf call source ≡ verdict.Allowed → reading (told.Call call) source ≡ heard k v
+  pub heard-allowed : verdictOf call source ≡ verdict.Allowed → reading (told.Request call) source ≡ heard k v
   heard-allowed h = sym (ap (λ (x : Verdict). judged x call source) h) ∙ heard-by
 
 pub heard-filled : (k : ℕ) (v : List ℕ) → heard k (filled v) ≡ heard k v
@@ -164,18 +164,18 @@ module _ (s : List ℕ) where
 
 -- ---- writing
 
-module _ (call : Call) (source : Source) (out : List ℕ) where
+module _ (call : Request) (source : Source) (out : List ℕ) where
   pub write-refused : (why : Refusal) → verdictOf call source ≡ verdict.Refused why
       → _≡_ {A = Written × List ℕ} (written.Refused why, out) (writeOf call source out)
   unfolding writeOf
   write-refused why h = sym (ap (λ (v : Verdict). writtenBy v (recordOf call source) out) h)
 
-  record-length : length (recordOf call source) ≡ size (layoutOf (numberOf call))
+  record-length : length (recordOf call source) ≡ size (layoutOf (kindNumber call))
   unfolding recordOf
-  record-length = length-packed (layoutOf (numberOf call)) (fieldsOf call source)
+  record-length = length-packed (layoutOf (kindNumber call)) (fieldsOf call source)
 
   module _ (h : verdictOf call source ≡ verdict.Allowed) where
-    pub write-short : length out < size (layoutOf (numberOf call))
+    pub write-short : length out < size (layoutOf (kindNumber call))
         → _≡_ {A = Written × List ℕ} (written.Refused CutShort, out) (writeOf call source out)
     unfolding writeOf
     write-short l =
@@ -183,8 +183,8 @@ module _ (call : Call) (source : Source) (out : List ℕ) where
         let e : ltb (length out) (length (recordOf call source)) ≡ true = lt-ltb (length out) (length (recordOf call source)) t in
         sym (ap (λ (v : Verdict). writtenBy v (recordOf call source) out) h ∙ rw e refl)
 
-    pub write-done : size (layoutOf (numberOf call)) ≤ length out
-        → _≡_ {A = Written × List ℕ} (written.Done, recordOf call source ++ drop (size (layoutOf (numberOf call))) out) (writeOf call source out)
+    pub write-done : size (layoutOf (kindNumber call)) ≤ length out
+        → _≡_ {A = Written × List ℕ} (written.Done, recordOf call source ++ drop (size (layoutOf (kindNumber call))) out) (writeOf call source out)
     unfolding writeOf
     write-done l =
         let t : length (recordOf call source) ≤ length out = omega (arith, record-length) in

@@ -4,11 +4,11 @@ use Rattle.road.specs.declared.Source.{Source}
 use Rattle.road.specs.declared.Verdict.the-variants as verdict
 use Rattle.road.specs.Judge.{receiverVerdict, sourceVerdict, lastSource, lastReceiver}
 use Rattle.road.proofs.Judged.{ByFields, source-by, receiver-by, slot-by}
-use Rattle.codec.specs.declared.Call.{Call}
-use Rattle.codec.specs.declared.Call.the-variants.{PlaceReceiver, WithdrawReceiver, PlaceSource, WithdrawSource, Ask}
+use Rattle.codec.specs.declared.Request.{Request}
+use Rattle.codec.specs.declared.Request.the-variants.{PlaceReceiver, WithdrawReceiver, PlaceSource, WithdrawSource, Ask}
 use Rattle.codec.specs.Kinds.{verdictOf}
 
-pub verdict-by : (call : Call) (source : Source) → ByFields (verdictOf call source)
+pub verdict-by : (call : Request) (source : Source) → ByFields (verdictOf call source)
 unfolding verdictOf
 verdict-by (PlaceReceiver slot r) s = slot-by lastReceiver slot (receiverVerdict r) (receiver-by r)
 verdict-by (WithdrawReceiver slot) s = slot-by lastReceiver slot verdict.Allowed tt

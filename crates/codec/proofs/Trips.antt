@@ -16,13 +16,13 @@ use Rattle.answer.specs.declared.Refusal.the-variants.{CutShort, UnknownKind, L
 use Rattle.road.specs.declared.Source.{Source}
 use Rattle.road.specs.declared.Verdict.{Verdict}
 use Rattle.road.specs.declared.Verdict.the-variants as verdict
-use Rattle.codec.specs.declared.Call.{Call}
+use Rattle.codec.specs.declared.Request.{Request}
 use Rattle.codec.specs.declared.Told.{Told}
 use Rattle.codec.specs.declared.Told.the-variants as told
 use Rattle.codec.specs.declared.Reading.{Reading}
 use Rattle.codec.specs.declared.Written.{Written}
 use Rattle.codec.specs.declared.Written.the-variants as written
-use Rattle.codec.specs.Kinds.{at, kindAt, layoutOf, leftoverOf, verdictOf, numberOf, fieldsOf, sourceWith}
+use Rattle.codec.specs.Kinds.{at, kindAt, layoutOf, leftoverOf, verdictOf, kindNumber, fieldsOf, sourceWith}
 use Rattle.codec.specs.Record.{kindOf, lengthOf, valuesOf, cutShort, unknownKind, leftoverSet, reading, refused, judged, heardBy, heard, readOf, extentOf, partBy, partOf, recordOf, writtenBy, writeOf}
 use Rattle.codec.proofs.Rows.{row-sized, row-begun}
 use Rattle.codec.proofs.Laws.{uncut, extent-whole, read-heard, write-done}
@@ -36,25 +36,25 @@ kind-first k s h l b =
 
 -- ---- what is accepted
 
-module _ (c : Call) (r : Source) where
-  refused-not : {A : Type 0} (why : Refusal) → refused why ≡ reading (told.Call c) r → A
+module _ (c : Request) (r : Source) where
+  refused-not : {A : Type 0} (why : Refusal) → refused why ≡ reading (told.Request c) r → A
   refused-not why e =
-      let t : told.Refused why ≡ told.Call c = ap (λ (x : Reading). x .told) e in
+      let t : told.Refused why ≡ told.Request c = ap (λ (x : Reading). x .told) e in
       let z : _≡_ {A = ℕ} 0 1 = cc in
       absurd (omega arith)
 
-  past : (b : Bool) (why : Refusal) (x : Reading) → cond b (refused why) x ≡ reading (told.Call c) r
-      → (b ≡ false) × (x ≡ reading (told.Call c) r)
+  past : (b : Bool) (why : Refusal) (x : Reading) → cond b (refused why) x ≡ reading (told.Request c) r
+      → (b ≡ false) × (x ≡ reading (told.Request c) r)
   past true why x e = refused-not why e
   past false why x e = (refl, e)
 
-  heard-call : (v : Verdict) (d : Call) (q : Source) → judged v d q ≡ reading (told.Call c) r → (v ≡ verdict.Allowed) × ((d ≡ c) × (q ≡ r))
+  heard-call : (v : Verdict) (d : Request) (q : Source) → judged v d q ≡ reading (told.Request c) r → (v ≡ verdict.Allowed) × ((d ≡ c) × (q ≡ r))
   heard-call verdict.Allowed d q e =
-      let t : told.Call d ≡ told.Call c = ap (λ (x : Reading). x .told) e in
+      let t : told.Request d ≡ told.Request c = ap (λ (x : Reading). x .told) e in
       (refl, (cc, ap (λ (x : Reading). x .source) e))
   heard-call (verdict.Refused why) d q e = refused-not why e
 
-pub record Accepted (s : List ℕ) (c : Call) (r : Source) : Type 0 where
+pub record Accepted (s : List ℕ) (c : Request) (r : Source) : Type 0 where
   pub listed : 0 < lengthOf s
   pub whole : lengthOf s ≤ length s
   pub clean : leftoverOf (kindOf s) (valuesOf s) ≡ 0
@@ -62,7 +62,7 @@ pub record Accepted (s : List ℕ) (c : Call) (r : Source) : Type 0 where
   pub source : kindAt (kindOf s) .source (at (valuesOf s)) ≡ r
   pub allowed : verdictOf c r ≡ verdict.Allowed
 
-pub accepted : (s : List ℕ) (c : Call) (r : Source) → readOf s ≡ reading (told.Call c) r → Accepted s c r
+pub accepted : (s : List ℕ) (c : Request) (r : Source) → readOf s ≡ reading (told.Request c) r → Accepted s c r
 unfolding readOf
 accepted s c r e =
     let k = kindOf s in
@@ -90,7 +90,7 @@ accepted s c r e =
 
 -- ---- read, and written again: the same bytes
 
-pub write-read : (s out : List ℕ) (c : Call) (r : Source) → Bytes s → extentOf s ≤ length out → readOf s ≡ reading (told.Call c) r
+pub write-read : (s out : List ℕ) (c : Request) (r : Source) → Bytes s → extentOf s ≤ length out → readOf s ≡ reading (told.Request c) r
     → _≡_ {A = Written × List ℕ} (writeOf c r out) (written.Done, take (extentOf s) s ++ drop (extentOf s) out)
 unfolding recordOf
 write-read s out c r b l e =
@@ -98,11 +98,11 @@ write-read s out c r b l e =
     let k = kindOf s in
     let v = valuesOf s in
     let x : extentOf s ≡ lengthOf s = sym (extent-whole s (a .whole)) in
-    let n : numberOf c ≡ k = ap numberOf (sym (a .call)) ∙ kind-again k (at v) (a .listed) in
+    let n : kindNumber c ≡ k = ap kindNumber (sym (a .call)) ∙ kind-again k (at v) (a .listed) in
     let f : fieldsOf c r ≡ v =
     sym (ap₂ fieldsOf (a .call) (a .source))
     ∙ fields-again k v (a .listed) (length-fields (layoutOf k) s) (kind-first k s (a .listed) (a .whole) b) (a .clean) in
-    let z : size (layoutOf (numberOf c)) ≡ extentOf s = ap (λ (j : ℕ). size (layoutOf j)) n ∙ sym x in
+    let z : size (layoutOf (kindNumber c)) ≡ extentOf s = ap (λ (j : ℕ). size (layoutOf j)) n ∙ sym x in
     let p : recordOf c r ≡ take (extentOf s) s =
     (λ i. packed (layoutOf (n i)) (f i)) ∙ packed-fields (layoutOf k) s (row-sized k) (a .whole) b ∙ ap (λ (j : ℕ). take j s) (sym x) in
     sym (write-done c r out (a .allowed) (omega arith)) ∙ (λ i. (written.Done, p i ++ drop (z i) out))
@@ -138,11 +138,11 @@ read-fields k t h l e z =
     sym (read-heard t cut (ne-eqb (lengthOf t) 0 known) (le-ltb 0 (leftoverOf (kindOf t) (valuesOf t)) (omega arith)))
     ∙ ap (λ (j : ℕ). heard j (fields (layoutOf j) t)) e
 
-pub read-written : (c : Call) (r : Source) (out t : List ℕ) → Bytes out → length (r .traffic) ≡ 3
-    → _≡_ {A = Written × List ℕ} (writeOf c r out) (written.Done, t) → readOf t ≡ reading (told.Call c) (sourceWith c r)
+pub read-written : (c : Request) (r : Source) (out t : List ℕ) → Bytes out → length (r .traffic) ≡ 3
+    → _≡_ {A = Written × List ℕ} (writeOf c r out) (written.Done, t) → readOf t ≡ reading (told.Request c) (sourceWith c r)
 unfolding writeOf recordOf
 read-written c r out t b h e =
-    let k = numberOf c in
+    let k = kindNumber c in
     let v = fieldsOf c r in
     let p = packed (layoutOf k) v in
     let d = done-bytes (verdictOf c r) p out t e in
@@ -158,7 +158,7 @@ read-written c r out t b h e =
 
 -- ---- the part
 
-pub part-read : (s : List ℕ) (c : Call) → readOf s .told ≡ told.Call c → partOf s ≡ take (extentOf s) s
+pub part-read : (s : List ℕ) (c : Request) → readOf s .told ≡ told.Request c → partOf s ≡ take (extentOf s) s
 unfolding partOf
 part-read s c e = ap (λ (x : Told). partBy x s) e
 
@@ -178,7 +178,7 @@ kind-periods (suc (suc (suc (suc zero)))) f = refl
 kind-periods (suc (suc (suc (suc (suc zero))))) f = refl
 kind-periods (suc (suc (suc (suc (suc (suc k)))))) f = refl
 
-judged-periods : (v : Verdict) (c : Call) (s : Source) → length (s .traffic) ≡ 3 → length (judged v c s .source .traffic) ≡ 3
+judged-periods : (v : Verdict) (c : Request) (s : Source) → length (s .traffic) ≡ 3 → length (judged v c s .source .traffic) ≡ 3
 judged-periods verdict.Allowed c s e = e
 judged-periods (verdict.Refused why) c s e = refl
 

@@ -9,8 +9,8 @@ use Rattle.road.specs.declared.Source.{Source}
 use Rattle.road.specs.declared.Verdict.{Verdict}
 use Rattle.road.specs.declared.Verdict.the-variants.{Allowed}
 use Rattle.road.specs.Judge.{sourceFields, receiverFields, sourceVerdict, receiverVerdict, slotVerdict, lastSource, lastReceiver}
-use Rattle.codec.specs.declared.Call.{Call}
-use Rattle.codec.specs.declared.Call.the-variants.{PlaceReceiver, WithdrawReceiver, PlaceSource, WithdrawSource, Ask}
+use Rattle.codec.specs.declared.Request.{Request}
+use Rattle.codec.specs.declared.Request.the-variants.{PlaceReceiver, WithdrawReceiver, PlaceSource, WithdrawSource, Ask}
 
 -- ---- from fields to a call: the kind stands at place 0, and field i at place i
 
@@ -56,11 +56,11 @@ pub record Kind : Type 0 where
   -- how many fields there are
   pub fields : ℕ
   -- what they ask for, and the source beside it
-  pub call : (ℕ → ℕ) → Call
+  pub call : (ℕ → ℕ) → Request
   pub source : (ℕ → ℕ) → Source
 
 -- a row of the table
-abbrev pub kind : List ℕ → ℕ → ((ℕ → ℕ) → Call) → ((ℕ → ℕ) → Source) → Kind
+abbrev pub kind : List ℕ → ℕ → ((ℕ → ℕ) → Request) → ((ℕ → ℕ) → Source) → Kind
 kind ws n f g = record { widths = ws; fields = n; call = f; source = g }
 
 -- what stands for every kind that has no row: it has no bytes, and so is refused
@@ -102,7 +102,7 @@ leftoverOf k v = at v (suc (kindAt k .fields))
 -- ---- of a call
 
 -- whether it is allowed, by the limits of slots, receivers and sources: refusals 5, 6 and 7
-unfoldable pub verdictOf : Call → Source → Verdict
+unfoldable pub verdictOf : Request → Source → Verdict
 verdictOf (PlaceReceiver slot r) s = slotVerdict lastReceiver slot (receiverVerdict r)
 verdictOf (WithdrawReceiver slot) s = slotVerdict lastReceiver slot Allowed
 verdictOf (PlaceSource slot) s = slotVerdict lastSource slot (sourceVerdict s)
@@ -110,15 +110,15 @@ verdictOf (WithdrawSource slot) s = slotVerdict lastSource slot Allowed
 verdictOf (Ask slot) s = slotVerdict lastReceiver slot Allowed
 
 -- its kind
-abbrev pub numberOf : Call → ℕ
-numberOf (PlaceReceiver slot r) = 1
-numberOf (WithdrawReceiver slot) = 2
-numberOf (PlaceSource slot) = 3
-numberOf (WithdrawSource slot) = 4
-numberOf (Ask slot) = 5
+abbrev pub kindNumber : Request → ℕ
+kindNumber (PlaceReceiver slot r) = 1
+kindNumber (WithdrawReceiver slot) = 2
+kindNumber (PlaceSource slot) = 3
+kindNumber (WithdrawSource slot) = 4
+kindNumber (Ask slot) = 5
 
 -- its kind, its fields, and its leftover bits, which are zero
-abbrev pub fieldsOf : Call → Source → List ℕ
+abbrev pub fieldsOf : Request → Source → List ℕ
 fieldsOf (PlaceReceiver slot r) s = 1 ∷ slot ∷ (receiverFields r ++ (0 ∷ []))
 fieldsOf (WithdrawReceiver slot) s = 2 ∷ slot ∷ 0 ∷ []
 fieldsOf (PlaceSource slot) s = 3 ∷ slot ∷ sourceFields s
@@ -126,7 +126,7 @@ fieldsOf (WithdrawSource slot) s = 4 ∷ slot ∷ 0 ∷ []
 fieldsOf (Ask slot) s = 5 ∷ slot ∷ 0 ∷ []
 
 -- the source that goes with it
-abbrev pub sourceWith : Call → Source → Source
+abbrev pub sourceWith : Request → Source → Source
 sourceWith (PlaceReceiver slot r) s = blank
 sourceWith (WithdrawReceiver slot) s = blank
 sourceWith (PlaceSource slot) s = s

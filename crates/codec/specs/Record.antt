@@ -13,13 +13,13 @@ use Rattle.answer.specs.Table.{numberBy, placeBy}
 use Rattle.road.specs.declared.Source.{Source}
 use Rattle.road.specs.declared.Verdict.{Verdict}
 use Rattle.road.specs.declared.Verdict.the-variants as verdict
-use Rattle.codec.specs.declared.Call.{Call}
+use Rattle.codec.specs.declared.Request.{Request}
 use Rattle.codec.specs.declared.Told.{Told}
 use Rattle.codec.specs.declared.Told.the-variants as told
 use Rattle.codec.specs.declared.Reading.{Reading}
 use Rattle.codec.specs.declared.Written.{Written}
 use Rattle.codec.specs.declared.Written.the-variants as written
-use Rattle.codec.specs.Kinds.{at, blank, kindAt, layoutOf, leftoverOf, verdictOf, numberOf, fieldsOf}
+use Rattle.codec.specs.Kinds.{at, blank, kindAt, layoutOf, leftoverOf, verdictOf, kindNumber, fieldsOf}
 
 -- ---- the record at the front of the bytes s
 
@@ -58,12 +58,12 @@ abbrev pub refused : Refusal → Reading
 refused why = reading (told.Refused why) blank
 
 -- refusals 5, 6 and 7: fields that are not allowed
-abbrev pub judged : Verdict → Call → Source → Reading
-judged verdict.Allowed call source = reading (told.Call call) source
+abbrev pub judged : Verdict → Request → Source → Reading
+judged verdict.Allowed call source = reading (told.Request call) source
 judged (verdict.Refused why) call source = refused why
 
 -- a call, if it is allowed
-abbrev pub heardBy : Call → Source → Reading
+abbrev pub heardBy : Request → Source → Reading
 heardBy call source = judged (verdictOf call source) call source
 
 -- what the fields of kind k ask for, if it is allowed
@@ -84,7 +84,7 @@ extentOf s = cond (leb (lengthOf s) (length s)) (lengthOf s) 0
 
 -- a refusal's part is empty
 abbrev pub partBy : Told → List ℕ → List ℕ
-partBy (told.Call call) s = take (extentOf s) s
+partBy (told.Request call) s = take (extentOf s) s
 partBy (told.Refused why) s = []
 
 -- the record as a part of the caller's own bytes
@@ -94,8 +94,8 @@ partOf s = partBy (readOf s .told) s
 -- ---- writing
 
 -- the bytes of a call
-unfoldable pub recordOf : Call → Source → List ℕ
-recordOf call source = packed (layoutOf (numberOf call)) (fieldsOf call source)
+unfoldable pub recordOf : Request → Source → List ℕ
+recordOf call source = packed (layoutOf (kindNumber call)) (fieldsOf call source)
 
 -- refusals 5, 6 and 7; then 2, if the output is shorter than the record. The bytes past the record stay.
 abbrev pub writtenBy : Verdict → List ℕ → List ℕ → Written × List ℕ
@@ -104,13 +104,13 @@ writtenBy verdict.Allowed bytes out =
     cond (ltb (length out) (length bytes)) (written.Refused CutShort, out) (written.Done, bytes ++ drop (length bytes) out)
 
 -- the answer, and the output as it then is
-unfoldable pub writeOf : Call → Source → List ℕ → Written × List ℕ
+unfoldable pub writeOf : Request → Source → List ℕ → Written × List ℕ
 writeOf call source out = writtenBy (verdictOf call source) (recordOf call source) out
 
 -- ---- number and place of what a reading tells, and of what comes of writing
 
 abbrev pub refusalTold : Told → Option Refusal
-refusalTold (told.Call call) = none
+refusalTold (told.Request call) = none
 refusalTold (told.Refused why) = some why
 
 abbrev pub numberTold : Told → ℕ

@@ -1,6 +1,6 @@
 // The kinds of record: the layout of each, its call, which calls are allowed, and the fields of a call.
 // A new kind is a new row of the tables and a new arm of each match.
-use crate::Call;
+use crate::Request;
 use road::Receiver;
 use road::Source;
 use road::Traffic;
@@ -12,7 +12,7 @@ ghost use Prim.Native.Nat.{_≤_, _<_};
 ghost use lib.ListN.{length};
 ghost use Rattle.level.specs.Table.{table};
 ghost use Rattle.layout.specs.Layout.{size, Within};
-ghost use Rattle.codec.specs.Kinds.{at, kindAt, layoutOf, receiverIn, trafficIn, sourceIn, verdictOf, numberOf, fieldsOf};
+ghost use Rattle.codec.specs.Kinds.{at, kindAt, layoutOf, receiverIn, trafficIn, sourceIn, verdictOf, kindNumber, fieldsOf};
 ghost use Rattle.codec.specs.Kinds as kinds;
 ghost use Rattle.codec.specs.Inner.{allWidths, filled, firstOf, shapeOf};
 
@@ -138,48 +138,48 @@ fn receiver_in(v: &[u64; 25]) -> Receiver
 }
 
 // What the fields of a kind ask for.
-pub fn call(kind: usize, v: &[u64; 25]) -> Call
+pub fn call(kind: usize, v: &[u64; 25]) -> Request
     requires { ⌜ (0 < size (layoutOf kind)) × Within (layoutOf kind) (firstOf kind (now v)) ⌝ }
     ensures { λ r. ⌜ r ≡ kindAt kind .call (at (now (v .entry))) ⌝ }
 {
     let slot = v[1] as u16;
     match kind {
-        1 => Call::PlaceReceiver(slot, receiver_in(v)),
-        2 => Call::WithdrawReceiver(slot),
-        3 => Call::PlaceSource(slot),
-        4 => Call::WithdrawSource(slot),
-        _ => Call::Ask(slot),
+        1 => Request::PlaceReceiver(slot, receiver_in(v)),
+        2 => Request::WithdrawReceiver(slot),
+        3 => Request::PlaceSource(slot),
+        4 => Request::WithdrawSource(slot),
+        _ => Request::Ask(slot),
     }
 }
 
 // Which calls are allowed.
-pub fn verdict(steps: &[u32; 1000], call: Call, source: Source) -> Verdict
+pub fn verdict(steps: &[u32; 1000], call: Request, source: Source) -> Verdict
     requires { ⌜ now steps ≡ table ⌝ }
     ensures { λ r. ⌜ r ≡ verdictOf call source ⌝ }
 {
     match call {
-        Call::PlaceReceiver(slot, r) => {
+        Request::PlaceReceiver(slot, r) => {
             judge::judge_slot(LAST_RECEIVER, slot, judge::judge_receiver(r))
         }
-        Call::WithdrawReceiver(slot) => judge::judge_slot(LAST_RECEIVER, slot, Verdict::Allowed),
-        Call::PlaceSource(slot) => {
+        Request::WithdrawReceiver(slot) => judge::judge_slot(LAST_RECEIVER, slot, Verdict::Allowed),
+        Request::PlaceSource(slot) => {
             judge::judge_slot(LAST_SOURCE, slot, judge::judge_source(steps, source))
         }
-        Call::WithdrawSource(slot) => judge::judge_slot(LAST_SOURCE, slot, Verdict::Allowed),
-        Call::Ask(slot) => judge::judge_slot(LAST_RECEIVER, slot, Verdict::Allowed),
+        Request::WithdrawSource(slot) => judge::judge_slot(LAST_SOURCE, slot, Verdict::Allowed),
+        Request::Ask(slot) => judge::judge_slot(LAST_RECEIVER, slot, Verdict::Allowed),
     }
 }
 
 // The kind of a call.
-pub fn number(call: Call) -> usize
-    ensures { λ r. ⌜ r ≡ numberOf call ⌝ }
+pub fn number(call: Request) -> usize
+    ensures { λ r. ⌜ r ≡ kindNumber call ⌝ }
 {
     match call {
-        Call::PlaceReceiver(_, _) => 1,
-        Call::WithdrawReceiver(_) => 2,
-        Call::PlaceSource(_) => 3,
-        Call::WithdrawSource(_) => 4,
-        Call::Ask(_) => 5,
+        Request::PlaceReceiver(_, _) => 1,
+        Request::WithdrawReceiver(_) => 2,
+        Request::PlaceSource(_) => 3,
+        Request::WithdrawSource(_) => 4,
+        Request::Ask(_) => 5,
     }
 }
 
@@ -292,21 +292,21 @@ fn join(kind: u64, slot: u16, fields: &[u64]) -> [u64; 25]
 }
 
 // The kind, the fields and the leftover bits of a call, with zeros after them.
-pub fn fields_of(call: Call, source: Source) -> [u64; 25]
+pub fn fields_of(call: Request, source: Source) -> [u64; 25]
     ensures { λ r. ⌜ r ≡ filled (fieldsOf call source) ⌝ }
 {
     let leftover = [0u64; 1];
     match call {
-        Call::PlaceReceiver(slot, r) => {
+        Request::PlaceReceiver(slot, r) => {
             let fields = [r.x as u64, r.y as u64, r.height as u64, 0];
             join(1, slot, &fields)
         }
-        Call::WithdrawReceiver(slot) => join(2, slot, &leftover),
-        Call::PlaceSource(slot) => {
+        Request::WithdrawReceiver(slot) => join(2, slot, &leftover),
+        Request::PlaceSource(slot) => {
             let fields = judge::source_fields(source);
             join(3, slot, &fields)
         }
-        Call::WithdrawSource(slot) => join(4, slot, &leftover),
-        Call::Ask(slot) => join(5, slot, &leftover),
+        Request::WithdrawSource(slot) => join(4, slot, &leftover),
+        Request::Ask(slot) => join(5, slot, &leftover),
     }
 }

@@ -17,7 +17,7 @@ ghost use Rattle.codec.specs.Inner.{filled, firstOf};
 ghost use Rattle.codec.specs.Record.{kindOf, extentOf, refused, heard, readOf, writeOf};
 
 // What a record asks for; the number is the slot. The road of PlaceSource stands beside the call, since it holds an array.
-pub enum Call {
+pub enum Request {
     PlaceReceiver(u16, Receiver),
     WithdrawReceiver(u16),
     PlaceSource(u16),
@@ -27,7 +27,7 @@ pub enum Call {
 
 // What a reading tells: a call, or why there is none.
 pub enum Told {
-    Call(Call),
+    Request(Request),
     Refused(Refusal),
 }
 
@@ -98,7 +98,7 @@ fn hear(steps: &[u32; 1000], kind: usize, v: &[u64; 25]) -> Reading
     match kinds::verdict(steps, call, source) {
         Verdict::Refused(why) => refuse(why),
         Verdict::Allowed => {
-            let told = Told::Call(call);
+            let told = Told::Request(call);
             Reading { told, source }
         }
     }
@@ -138,7 +138,7 @@ fn put(out: &mut [u8], kind: usize, v: &[u64])
 }
 
 // Writes the record of a call at the front of out. A refusal writes nothing.
-pub fn write(steps: &[u32; 1000], call: Call, source: Source, out: &mut [u8]) -> Written
+pub fn write(steps: &[u32; 1000], call: Request, source: Source, out: &mut [u8]) -> Written
     requires { ⌜ now steps ≡ table ⌝ }
     ensures { λ r. ⌜ (r, now (out .exit)) ≡ writeOf call source (now (out .entry)) ⌝ }
 {

@@ -1,7 +1,7 @@
 // How a figure is written: its name, which is a line of a list of names, and the number.
 // A list of names is one text: each text that a function names costs the proof of that function a good deal.
 use answer::Refusal;
-use level::Heard;
+use level::Loudness;
 use libc::STDOUT_FILENO;
 use road::Term;
 
@@ -45,10 +45,10 @@ pub fn level(names: &[u8], k: usize, t: Term) {
 }
 
 // What is heard of an energy.
-pub fn heard(names: &[u8], k: usize, h: Heard) {
+pub fn heard(names: &[u8], k: usize, h: Loudness) {
     match h {
-        Heard::Quiet => word(names, k, b"quiet\n"),
-        Heard::Level(l) => number(names, k, l as u64),
+        Loudness::Quiet => word(names, k, b"quiet\n"),
+        Loudness::Level(l) => number(names, k, l as u64),
     }
 }
 

@@ -5,12 +5,13 @@ use native.Mathlib.Decide.{decLt}
 use native.Mathlib.Omega.{arith}
 use lib.Dec.{lit≤}
 use Rattle.level.specs.Table.{table, firstQuarter, secondQuarter, thirdQuarter, fourthQuarter}
-use Rattle.level.specs.Level.{energyOf, levelOf, heardOf}
-use Rattle.level.specs.declared.Heard.{Heard}
-use Rattle.level.specs.declared.Heard.the-variants.{Level}
-use Rattle.level.specs.declared.Heard.the-variants.{Quiet as Unheard}
+use Rattle.level.specs.Level.{energyOf, levelOf, loudnessOf}
+use Rattle.level.specs.declared.Loudness.{Loudness}
+use Rattle.level.specs.declared.Loudness.the-variants.{Level}
+use Rattle.level.specs.declared.Loudness.the-variants.{Quiet as Unheard}
 use Rattle.level.proofs.Laws.{level-below, level-reached, energy-rises, energy-decade, heard-quiet, heard-level}
-use Rattle.index.specs.Index.{top, levelIn, lift, liftedOf}
+use Rattle.level.specs.Level.{top}
+use Rattle.index.specs.Index.{levelIn, lift, liftedOf}
 
 -- three entries of the table, worked out
 pub loudest : energyOf 11710 ≡ 512861400000000000
@@ -26,18 +27,18 @@ unfolding energyOf table firstQuarter secondQuarter thirdQuarter fourthQuarter
 night-most = refl
 
 -- what is heard of a sum, case by case
-heard-cases : (P : Heard → Type 0) (s : ℕ) → (s < 1000000 → P Unheard) → (1000000 ≤ s → P (Level (levelOf s))) → P (heardOf s)
+heard-cases : (P : Loudness → Type 0) (s : ℕ) → (s < 1000000 → P Unheard) → (1000000 ≤ s → P (Level (levelOf s))) → P (loudnessOf s)
 heard-cases P s f g = go (decLt s 1000000)
   where
-    go : Dec (s < 1000000) → P (heardOf s)
+    go : Dec (s < 1000000) → P (loudnessOf s)
     go (yes h) = subst P (sym (heard-quiet s h)) (f h)
     go (no h) = let k : 1000000 ≤ s = omega arith in subst P (sym (heard-level s k)) (g k)
 
-pub level-small : (s : ℕ) → s ≤ top → levelIn (heardOf s) ≤ 11709
+pub level-small : (s : ℕ) → s ≤ top → levelIn (loudnessOf s) ≤ 11709
 level-small s h = heard-cases (λ x. levelIn x ≤ 11709) s (λ k. omega arith) (λ k. omega (arith, level-below s 11710 k (omega (arith, loudest))))
 
 -- of any number of 64 bits
-pub level-any : (s : ℕ) → s < 2 ^ 64 → levelIn (heardOf s) < 20000
+pub level-any : (s : ℕ) → s < 2 ^ 64 → levelIn (loudnessOf s) < 20000
 level-any s h = heard-cases (λ x. levelIn x < 20000) s (λ k. omega arith) (λ k. omega (arith, level-below s 14000 k (omega (arith, energy-decade 14))))
 
 -- a period's energy is at most that of the loudest level with its addition

@@ -3,8 +3,9 @@
 ghost use mathlib.Core.Path.{_≡_};
 ghost use Prim.Native.Nat.{_+_, _*_, _/_, _<_, _≤_};
 ghost use Rattle.level.specs.Table.{table};
-ghost use Rattle.index.specs.Index.{top, levelIn, tenthsOf, liftedOf, ldenOf, lnightOf};
-use level::Heard;
+ghost use Rattle.level.specs.Level.{top};
+ghost use Rattle.index.specs.Index.{levelIn, tenthsOf, liftedOf, ldenOf, lnightOf};
+use level::Loudness;
 
 // An index in tenths of a dB, or none.
 pub enum Index {
@@ -13,13 +14,13 @@ pub enum Index {
 }
 
 // A level brought to tenths, half a tenth up.
-fn in_tenths(heard: Heard) -> Index
+fn in_tenths(heard: Loudness) -> Index
     requires { ⌜ levelIn heard < 20000 ⌝ }
     ensures { λ r. ⌜ r ≡ tenthsOf heard ⌝ }
 {
     match heard {
-        Heard::Quiet => Index::Quiet,
-        Heard::Level(hundredths) => Index::Tenths((hundredths + 5) / 10),
+        Loudness::Quiet => Index::Quiet,
+        Loudness::Level(hundredths) => Index::Tenths((hundredths + 5) / 10),
     }
 }
 
@@ -29,8 +30,8 @@ fn lifted(steps: &[u32; 1000], sum: u64, addition: u32) -> u64
     ensures { λ r. ⌜ r ≡ liftedOf addition sum ⌝ }
 {
     match level::level(steps, sum) {
-        Heard::Quiet => 0,
-        Heard::Level(hundredths) => level::energy(steps, hundredths + addition),
+        Loudness::Quiet => 0,
+        Loudness::Level(hundredths) => level::energy(steps, hundredths + addition),
     }
 }
 

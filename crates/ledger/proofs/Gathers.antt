@@ -21,7 +21,8 @@ use Rattle.road.specs.declared.Pair.the-variants.{Barred as Bars}
 use Rattle.road.specs.Reach.{shareOf, sharesOf, pairOf}
 use Rattle.road.proofs.Pairs.{heard-is}
 use Rattle.store.specs.declared.Account.{Account}
-use Rattle.store.specs.Account.{top, soundB, plusOf, roomB, nothing}
+use Rattle.level.specs.Level.{top}
+use Rattle.store.specs.Account.{soundB, plusOf, roomB, nothing}
 use Rattle.ledger.specs.declared.round.Stop.{Stop}
 use Rattle.ledger.specs.declared.round.Stop.the-variants.{Nowhere, At}
 use Rattle.ledger.specs.declared.gather.Gathered.{Gathered}

@@ -10,7 +10,7 @@ use native.Mathlib.Nat.{not-suc-le-zero}
 use lib.ListN.{length, getD, set, take}
 use Rattle.store.specs.declared.Held.{Held}
 use Rattle.store.specs.declared.Seat.{Seat}
-use Rattle.store.specs.Store.{Book, book, bookOf, bytesOf, HeldStands, SoundBook}
+use Rattle.store.specs.Store.{Book, book, bookOf, bookBytes, HeldStands, SoundBook}
 use Rattle.store.proofs.Laws.{Holds, sound-book, sound-held, holds-bytes}
 use Rattle.ledger.specs.Ledger.{vacant, seatOver, seated, seatedAt, settled}
 
@@ -41,7 +41,7 @@ seat-sound b j t h f = go (t .used) refl
     go true e = rw e (sound-held b j (some (t .held)) h (λ (a : Held) q. (let k : t .held ≡ a = cc in subst HeldStands k (f e))))
     go false e = rw e h
 
-pub seat-holds : (s u : List ℕ) (b : Book) (j : ℕ) (t : Seat) → Holds s b → (t .used ≡ true → HeldStands (t .held)) → u ≡ bytesOf (settled t j (bookOf s)) → Holds u (settled t j b)
+pub seat-holds : (s u : List ℕ) (b : Book) (j : ℕ) (t : Seat) → Holds s b → (t .used ≡ true → HeldStands (t .held)) → u ≡ bookBytes (settled t j (bookOf s)) → Holds u (settled t j b)
 seat-holds s u b j t h f e =
     let g : SoundBook b = subst SoundBook (h .is) (sound-book s (h .whole)) in
-    subst (λ (v : List ℕ). Holds v (settled t j b)) (sym (e ∙ ap (λ (c : Book). bytesOf (settled t j c)) (h .is))) (holds-bytes (settled t j b) (seat-sound b j t g f))
+    subst (λ (v : List ℕ). Holds v (settled t j b)) (sym (e ∙ ap (λ (c : Book). bookBytes (settled t j c)) (h .is))) (holds-bytes (settled t j b) (seat-sound b j t g f))

@@ -16,7 +16,7 @@ use Rattle.road.specs.Reach.{pairOf}
 use Rattle.store.specs.declared.Account.{Account}
 use Rattle.store.specs.declared.Held.{Held}
 use Rattle.store.specs.declared.Seat.{Seat}
-use Rattle.store.specs.Account.{plusOf, minusOf, coversB, roomB, soundB, nothing}
+use Rattle.store.specs.Account.{plusOf, minusOf, covers, roomB, soundB, nothing}
 use Rattle.store.specs.Store.{Book, book, HeldStands}
 use Rattle.ledger.specs.declared.round.Turn.{Turn}
 use Rattle.ledger.specs.declared.round.Turn.the-variants.{Moved, Barred, Late}
@@ -35,7 +35,7 @@ raisedBy (Heard h) a = cond (roomB a h) (Moved (plusOf a h)) Late
 raisedBy (Bars b) a = Barred b
 
 abbrev pub loweredBy : Pair → Account → Turn
-loweredBy (Heard h) a = cond (coversB a h) (Moved (minusOf a h)) Late
+loweredBy (Heard h) a = cond (covers a h) (Moved (minusOf a h)) Late
 loweredBy (Bars b) a = Late
 
 unfoldable pub turnOf : Bool → Source → Held → Turn

@@ -16,7 +16,7 @@ ghost use Rattle.level.specs.Table.{table};
 ghost use Rattle.road.specs.declared.Verdict.the-variants.{Allowed};
 ghost use Rattle.road.specs.Judge.{sourceVerdict, receiverVerdict};
 ghost use Rattle.road.specs.Inner.{voicesOf};
-ghost use Rattle.store.specs.Store.{damaged, bookOf, bytesOf, book, HeldStands};
+ghost use Rattle.store.specs.Store.{damaged, bookOf, bookBytes, book, HeldStands};
 ghost use Rattle.ledger.specs.Lists.{barAt};
 ghost use Rattle.ledger.specs.Ledger.{raisedBy, loweredBy, turnOf, vacant, Rounded, settled, seated, StandingSeats};
 
@@ -75,7 +75,7 @@ fn lowered(sums: Account, p: Pair) -> Turn
     match p {
         Pair::Barred(_) => Turn::Late,
         Pair::Heard(shares) => {
-            if sums.holds(shares) {
+            if sums.covers(shares) {
                 let less = sums.minus(shares);
                 return Turn::Moved(less);
             }
@@ -171,7 +171,7 @@ pub fn go_round(
 // A seat that is used is written into its slot; one that is not leaves the slot as it was.
 fn settle(store: &mut [u8], j: usize, seat: Seat)
     requires { ⌜ (damaged (now store) ≡ false) × (j < 64) × (seat .used ≡ true → HeldStands (seat .held)) ⌝ }
-    ensures { λ _. ⌜ now (store .exit) ≡ bytesOf (settled seat j (bookOf (now (store .entry)))) ⌝ }
+    ensures { λ _. ⌜ now (store .exit) ≡ bookBytes (settled seat j (bookOf (now (store .entry)))) ⌝ }
 {
     if !seat.used {
         return;

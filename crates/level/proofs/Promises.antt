@@ -3,8 +3,8 @@ use mathlib.Core.Path.{_≡_, sym, _∙_}
 use Prim.Native.Nat.{ℕ, _<_, _≤_}
 use native.Mathlib.Decide.{decLt}
 use native.Mathlib.Omega.{arith}
-use Rattle.level.specs.Level.{levelOf, heardOf}
-use Rattle.level.specs.declared.Heard.the-variants.{Quiet, Level}
+use Rattle.level.specs.Level.{levelOf, loudnessOf}
+use Rattle.level.specs.declared.Loudness.the-variants.{Quiet, Level}
 use Rattle.level.specs.Promises.{Promises}
 use Rattle.level.proofs.Rule.{table-length, rule}
 use Rattle.level.proofs.Laws.{level-reached, level-greatest, level-rises, level-energy, energy-rising, heard-quiet, heard-level}
@@ -12,7 +12,7 @@ use Rattle.level.proofs.Laws.{level-reached, level-greatest, level-rise
 some-level : (l : ℕ) → Level l ≡ Quiet → ⊥
 some-level l e = let z : _≡_ {A = ℕ} 0 1 = cc in omega arith
 
-quiet-only : (s : ℕ) → heardOf s ≡ Quiet → s < 1000000
+quiet-only : (s : ℕ) → loudnessOf s ≡ Quiet → s < 1000000
 quiet-only s e = go (decLt s 1000000)
   where
     go : Dec (s < 1000000) → s < 1000000

@@ -4,8 +4,8 @@ use mathlib.Core.Path.{_≡_}
 use Prim.Native.Nat.{ℕ, _<_, _≤_}
 use lib.ListN.{length}
 use Rattle.level.specs.Table.{table, Z, Nearest}
-use Rattle.level.specs.Level.{energyOf, levelOf, heardOf}
-use Rattle.level.specs.declared.Heard.the-variants.{Quiet, Level}
+use Rattle.level.specs.Level.{energyOf, levelOf, loudnessOf}
+use Rattle.level.specs.declared.Loudness.the-variants.{Quiet, Level}
 
 pub record Promises : Type 0 where
   -- the table has one thousand entries, and each is the whole number nearest to 10^6 times ten to the power k/1000:
@@ -16,9 +16,9 @@ pub record Promises : Type 0 where
   pub at-most : (s : ℕ) → 1000000 ≤ s → energyOf (levelOf s) ≤ s
   pub greatest : (s l : ℕ) → 1000000 ≤ s → energyOf l ≤ s → l ≤ levelOf s
   -- below 10^6, and only there, there is no level
-  pub quiet : (s : ℕ) → s < 1000000 → heardOf s ≡ Quiet
-  pub quiet-only : (s : ℕ) → heardOf s ≡ Quiet → s < 1000000
-  pub heard : (s : ℕ) → 1000000 ≤ s → heardOf s ≡ Level (levelOf s)
+  pub quiet : (s : ℕ) → s < 1000000 → loudnessOf s ≡ Quiet
+  pub quiet-only : (s : ℕ) → loudnessOf s ≡ Quiet → s < 1000000
+  pub heard : (s : ℕ) → 1000000 ≤ s → loudnessOf s ≡ Level (levelOf s)
   -- E is strictly rising, LV is rising, and LV(E(L)) is L
   pub energy-rising : (l m : ℕ) → l < m → energyOf l < energyOf m
   pub level-rises : (s t : ℕ) → 1000000 ≤ s → s ≤ t → levelOf s ≤ levelOf t

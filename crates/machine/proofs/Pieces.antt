@@ -13,7 +13,7 @@ use Rattle.listing.specs.Listing.{lineRoom}
 use Rattle.machine.specs.declared.State.{State}
 use Rattle.machine.specs.Job.{before, ended, listFrom}
 use Rattle.machine.specs.Feed.{left, Fed, Feed, rests, feedFrom, feedOf}
-use Rattle.machine.specs.Pieces.{Work, begun, fedOnce, arrives, Piece, pieces, rest, joined, AllBytes, Roomy, worked, AnyPieces, Theorems}
+use Rattle.machine.specs.Pieces.{Work, begun, fedOnce, arrives, Piece, pieces, rest, together, AllBytes, Roomy, worked, AnyPieces, JobTheorems}
 use Rattle.machine.proofs.Rule.{rule, true-false, before-before, left-on, left-stopped, left-none}
 use Rattle.machine.proofs.Good.{Good, good}
 
@@ -64,10 +64,10 @@ keeps-arrives piece arrived store w y k later b h =
     ∙ ap (λ (s : List ℕ). listFrom 0 s store) (sym (append-assoc arrived piece later))
 
 keeps-pieces : (ps : List Piece) (arrived store : List ℕ) (w : Work) → AllBytes ps → Keeps false arrived store w
-    → Keeps false (arrived ++ joined ps) store (pieces ps w)
+    → Keeps false (arrived ++ together ps) store (pieces ps w)
 keeps-pieces [] arrived store w y k = subst (λ (a : List ℕ). Keeps false a store w) (sym (append-nil arrived)) k
 keeps-pieces (p ∷ ps) arrived store w y k =
-    subst (λ (a : List ℕ). Keeps false a store (pieces ps (fedOnce false (p .room) (arrives (p .bytes) w)))) (append-assoc arrived (p .bytes) (joined ps))
+    subst (λ (a : List ℕ). Keeps false a store (pieces ps (fedOnce false (p .room) (arrives (p .bytes) w)))) (append-assoc arrived (p .bytes) (together ps))
     (keeps-pieces ps (arrived ++ p .bytes) store (fedOnce false (p .room) (arrives (p .bytes) w)) (y .1)
     (keeps-fed false (p .room) (arrived ++ p .bytes) store (arrives (p .bytes) w) (keeps-arrives (p .bytes) arrived store w (y .0) k)))
 
@@ -118,10 +118,10 @@ ends (room ∷ rooms) w r h =
 holds-fed : (room : ℕ) (over : Bool) (w : Work) → length (fedOnce over room w .held) ≤ length (w .held)
 holds-fed room over w = omega (arith, length-drop (feedOf over (w .state) (w .held) (w .store) room .used) (w .held))
 
-holds : (ps : List Piece) (w : Work) → length (pieces ps w .held) ≤ length (w .held) + length (joined ps)
+holds : (ps : List Piece) (w : Work) → length (pieces ps w .held) ≤ length (w .held) + length (together ps)
 holds [] w = omega arith
 holds (p ∷ ps) w =
-    omega (arith, holds ps (fedOnce false (p .room) (arrives (p .bytes) w)), holds-fed (p .room) false (arrives (p .bytes) w), length-append (w .held) (p .bytes), length-append (p .bytes) (joined ps))
+    omega (arith, holds ps (fedOnce false (p .room) (arrives (p .bytes) w)), holds-fed (p .room) false (arrives (p .bytes) w), length-append (w .held) (p .bytes), length-append (p .bytes) (together ps))
 
 through-left : (w : Work) → Through w → left (w .state) (w .held ++ []) (w .store) ≡ ended (w .state .count) (w .store)
 through-left w t =
@@ -135,11 +135,11 @@ through-left w t =
 any-pieces : AnyPieces
 any-pieces ps rooms store y r h =
     let w = worked ps rooms store in
-    let k : Keeps true (joined ps) store (pieces ps (begun store)) =
+    let k : Keeps true (together ps) store (pieces ps (begun store)) =
     λ later b q. keeps-pieces ps [] store (begun store) y (keeps-begun store) later b (λ e. absurd (true-false (sym e))) in
     ap (before (w .text)) (sym (through-left w (ends rooms (pieces ps (begun store)) r (omega (arith, holds ps (begun store))))))
-    ∙ keeps-rest rooms (joined ps) store (pieces ps (begun store)) k [] (λ i. omega arith) (λ e. refl)
-    ∙ ap (λ (s : List ℕ). listFrom 0 s store) (append-nil (joined ps))
+    ∙ keeps-rest rooms (together ps) store (pieces ps (begun store)) k [] (λ i. omega arith) (λ e. refl)
+    ∙ ap (λ (s : List ℕ). listFrom 0 s store) (append-nil (together ps))
 
-pub of-this-machine : Theorems
+pub of-this-machine : JobTheorems
 of-this-machine = record { rule = rule; any-pieces = any-pieces }

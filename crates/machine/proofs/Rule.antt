@@ -11,7 +11,7 @@ use Rattle.service.specs.Service.{doneTo}
 use Rattle.service.proofs.Own.{own}
 use Rattle.listing.specs.Listing.{lineOf}
 use Rattle.machine.specs.declared.State.{State}
-use Rattle.machine.specs.Job.{Listing, before, ended, endOr, stopOr, listIn, listFrom, Rule}
+use Rattle.machine.specs.Job.{Listing, before, ended, endOr, stopOr, listIn, listFrom, ListingRule}
 use Rattle.machine.specs.Feed.{left}
 
 -- turns enough are enough
@@ -66,7 +66,7 @@ pub rule-on : (n : ℕ) (s store : List ℕ) (d : Deed × List ℕ) → 0 < leng
     → listFrom n s store ≡ before (lineOf (n + 1) (d .0 .outcome)) (listFrom (n + 1) (drop (d .0 .extent) s) (d .1))
 rule-on n s store d h e z = next n s store d h e ∙ ap (before (lineOf (n + 1) (d .0 .outcome))) (stop-more (d .0 .extent) _ _ z)
 
-pub rule : Rule
+pub rule : ListingRule
 rule = record { ends = rule-end; stops = rule-stop; goes-on = rule-on; own = own }
 
 -- ---- what is left

@@ -51,7 +51,7 @@ listingOf job store = listFrom 0 job store
 
 -- ---- the same rule without turns
 
-pub record Rule : Type 0 where
+pub record ListingRule : Type 0 where
   -- an empty rest ends the job: END and the number of records tried
   pub ends : (n : ℕ) (store : List ℕ) → listFrom n [] store ≡ ended n store
   -- a record refused 2 or 3 is printed, counts, and ends it

@@ -1,4 +1,4 @@
--- A job that comes in pieces of any sizes: the machine holds what it has not used yet, and its texts, joined, are the listing of the whole job.
+-- A job that comes in pieces of any sizes: the machine holds what it has not used yet, and its texts, together, are the listing of the whole job.
 use Prim.Native.Nat.{ℕ, _≤_}
 use mathlib.Core.Path.{_≡_}
 use mathlib.Core.Bool.{Bool, true, false}
@@ -7,10 +7,10 @@ use lib.ListN.{length, drop}
 use Rattle.layout.specs.Layout.{Bytes}
 use Rattle.listing.specs.Listing.{lineRoom, endLine}
 use Rattle.machine.specs.declared.State.{State}
-use Rattle.machine.specs.Job.{Rule, listingOf}
+use Rattle.machine.specs.Job.{ListingRule, listingOf}
 use Rattle.machine.specs.Feed.{feedOf}
 
--- a machine at work: its state, the bytes that it holds, the store, and the texts handed out so far, joined
+-- a machine at work: its state, the bytes that it holds, the store, and the texts handed out so far, together
 pub record Work : Type 0 where
   pub state : State
   pub held : List ℕ
@@ -46,9 +46,9 @@ rest [] w = w
 rest (room ∷ rooms) w = rest rooms (fedOnce true room w)
 
 -- the bytes of all pieces
-abbrev pub joined : List Piece → List ℕ
-joined [] = []
-joined (p ∷ ps) = p .bytes ++ joined ps
+abbrev pub together : List Piece → List ℕ
+together [] = []
+together (p ∷ ps) = p .bytes ++ together ps
 
 abbrev pub AllBytes : List Piece → Type 0
 AllBytes [] = Unit {0}
@@ -64,11 +64,11 @@ abbrev pub worked : List Piece → List ℕ → List ℕ → Work
 worked ps rooms store = rest rooms (pieces ps (begun store))
 
 -- FED ANY PIECES, of any sizes, each with any room, and then the rest with room for a line each time, as often as there are bytes (fewer times
--- do where the rooms are large): the texts handed out, joined, with the last line are the listing of the pieces joined; the store is its store
+-- do where the rooms are large): the texts handed out, together, with the last line are the listing of the pieces together; the store is its store
 abbrev pub AnyPieces : Type 0
-AnyPieces = (ps : List Piece) (rooms store : List ℕ) → AllBytes ps → Roomy rooms → length (joined ps) ≤ length rooms
-    → let w = worked ps rooms store in (w .text ++ endLine (w .state .count), w .store) ≡ listingOf (joined ps) store
+AnyPieces = (ps : List Piece) (rooms store : List ℕ) → AllBytes ps → Roomy rooms → length (together ps) ≤ length rooms
+    → let w = worked ps rooms store in (w .text ++ endLine (w .state .count), w .store) ≡ listingOf (together ps) store
 
-pub record Theorems : Type 0 where
-  pub rule : Rule
+pub record JobTheorems : Type 0 where
+  pub rule : ListingRule
   pub any-pieces : AnyPieces

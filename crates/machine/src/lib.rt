@@ -1,5 +1,5 @@
 // A job fed in pieces: its records are done one after the other to an undamaged store, and their lines handed out as far as there is room.
-// No input or output here: the bytes and the room are lent. Fed any pieces, the texts joined are the listing of the job (specs/Pieces.antt).
+// No input or output here: the bytes and the room are lent. Fed any pieces, the texts together are the listing of the job (specs/Pieces.antt).
 use service::Outcome;
 ghost use mathlib.Core.Path.{_≡_};
 ghost use mathlib.Core.Bool.{false};

@@ -3,7 +3,7 @@
 use Prim.Native.Nat.{ℕ, zero, suc}
 use mathlib.Core.Path.{_≡_, refl}
 use Rattle.road.specs.declared.Receiver.{Receiver}
-use Rattle.codec.specs.declared.Call.the-variants.{Ask}
+use Rattle.codec.specs.declared.Request.the-variants.{Ask}
 use Rattle.probe.specs.Raw.{callBy}
 
 pub ask-else : (k slot : ℕ) (r : Receiver) → (k ≡ 1 → ⊥) → (k ≡ 2 → ⊥) → (k ≡ 3 → ⊥) → (k ≡ 4 → ⊥) → callBy k slot r ≡ Ask slot

@@ -9,7 +9,7 @@ use Rattle.codec.specs.declared.Written.the-variants as written
 use Rattle.codec.specs.Record.{numberWritten, placeWritten}
 use Rattle.service.specs.declared.Outcome.{Outcome}
 use Rattle.service.specs.declared.Outcome.the-variants.{Done, Levels, Refused}
-use Rattle.service.specs.Service.{numberIn, placeIn}
+use Rattle.service.specs.Service.{outcomeNumber, outcomePlace}
 
 abbrev pub brief : ℕ → ℕ
 brief n = min n 65535
@@ -39,7 +39,7 @@ nightIn (Levels slot den night) = tenths night
 nightIn (Refused why) = 0
 
 abbrev pub ofOutcome : Outcome → ℕ → List ℕ
-ofOutcome o extent = line (tagIn o) (numberIn o) (placeIn o) (denIn o) (nightIn o) extent
+ofOutcome o extent = line (tagIn o) (outcomeNumber o) (outcomePlace o) (denIn o) (nightIn o) extent
 
 -- of writing
 abbrev pub tagWritten : Written → ℕ

@@ -6,8 +6,8 @@ use lib.ListN.{getD}
 use Rattle.road.specs.declared.Receiver.{Receiver}
 use Rattle.road.specs.declared.Traffic.{Traffic}
 use Rattle.road.specs.declared.Source.{Source}
-use Rattle.codec.specs.declared.Call.{Call}
-use Rattle.codec.specs.declared.Call.the-variants.{PlaceReceiver, WithdrawReceiver, PlaceSource, WithdrawSource, Ask}
+use Rattle.codec.specs.declared.Request.{Request}
+use Rattle.codec.specs.declared.Request.the-variants.{PlaceReceiver, WithdrawReceiver, PlaceSource, WithdrawSource, Ask}
 
 abbrev pub one : List ℕ → ℕ → ℕ
 one s i = getD s i 0
@@ -21,8 +21,8 @@ four s i = two s i * 65536 + two s (i + 2)
 abbrev pub trafficAt : List ℕ → ℕ → Traffic
 trafficAt s i = record { m = four s i; p = two s (i + 4) }
 
-abbrev pub sourceAt : List ℕ → Source
-sourceAt s =
+abbrev pub rawSource : List ℕ → Source
+rawSource s =
     record {
       x = four s 3;
       y = four s 7;
@@ -39,11 +39,11 @@ sourceAt s =
       traffic = trafficAt s 26 ∷ trafficAt s 32 ∷ trafficAt s 38 ∷ [];
     }
 
-abbrev pub receiverAt : List ℕ → Receiver
-receiverAt s = record { x = four s 3; y = four s 7; height = two s 11 }
+abbrev pub rawReceiver : List ℕ → Receiver
+rawReceiver s = record { x = four s 3; y = four s 7; height = two s 11 }
 
-unfoldable pub callBy : ℕ → ℕ → Receiver → Call
+unfoldable pub callBy : ℕ → ℕ → Receiver → Request
 callBy kind slot r = getD (Ask slot ∷ PlaceReceiver slot r ∷ WithdrawReceiver slot ∷ PlaceSource slot ∷ WithdrawSource slot ∷ []) kind (Ask slot)
 
-abbrev pub callAt : List ℕ → Call
-callAt s = callBy (one s 0) (two s 1) (receiverAt s)
+abbrev pub callAt : List ℕ → Request
+callAt s = callBy (one s 0) (two s 1) (rawReceiver s)

@@ -1,6 +1,6 @@
 // A call as 44 bytes: the kind, the slot (two bytes), and the fields of a source or a receiver, each as wide as its type.
 // So calls can be told that no record holds. A kind that is not listed is an ask.
-use record::Call;
+use record::Request;
 use road::Receiver;
 use road::Source;
 use road::Traffic;
@@ -44,13 +44,13 @@ fn traffic(raw: &[u8; 44], at: usize) -> Traffic
 }
 
 fn periods(raw: &[u8; 44]) -> [Traffic; 3]
-    ensures { λ r. ⌜ r ≡ spec.sourceAt (now (raw .entry)) .traffic ⌝ }
+    ensures { λ r. ⌜ r ≡ spec.rawSource (now (raw .entry)) .traffic ⌝ }
 {
     [traffic(raw, 26), traffic(raw, 32), traffic(raw, 38)]
 }
 
 pub fn source(raw: &[u8; 44]) -> Source
-    ensures { λ r. ⌜ r ≡ spec.sourceAt (now (raw .entry)) ⌝ }
+    ensures { λ r. ⌜ r ≡ spec.rawSource (now (raw .entry)) ⌝ }
 {
     let x = four(raw, 3);
     let y = four(raw, 7);
@@ -83,7 +83,7 @@ pub fn source(raw: &[u8; 44]) -> Source
 }
 
 fn receiver(raw: &[u8; 44]) -> Receiver
-    ensures { λ r. ⌜ r ≡ spec.receiverAt (now (raw .entry)) ⌝ }
+    ensures { λ r. ⌜ r ≡ spec.rawReceiver (now (raw .entry)) ⌝ }
 {
     let x = four(raw, 3);
     let y = four(raw, 7);
@@ -91,16 +91,16 @@ fn receiver(raw: &[u8; 44]) -> Receiver
     Receiver { x, y, height }
 }
 
-pub fn of(raw: &[u8; 44]) -> Call
+pub fn of(raw: &[u8; 44]) -> Request
     ensures { λ r. ⌜ r ≡ spec.callAt (now (raw .entry)) ⌝ }
 {
     let slot = two(raw, 1);
     let kind = raw[0];
     match kind {
-        1 => Call::PlaceReceiver(slot, receiver(raw)),
-        2 => Call::WithdrawReceiver(slot),
-        3 => Call::PlaceSource(slot),
-        4 => Call::WithdrawSource(slot),
-        _ => Call::Ask(slot),
+        1 => Request::PlaceReceiver(slot, receiver(raw)),
+        2 => Request::WithdrawReceiver(slot),
+        3 => Request::PlaceSource(slot),
+        4 => Request::WithdrawSource(slot),
+        _ => Request::Ask(slot),
     }
 }

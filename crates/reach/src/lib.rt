@@ -17,7 +17,7 @@ ghost use Rattle.road.specs.declared.Verdict.the-variants.{Allowed};
 ghost use Rattle.road.specs.Term.{takes, _⊕_};
 ghost use Rattle.road.specs.Reach.{apart, square, planSquare, distanceTerm, groundTerm, weatherTerm, pairOf};
 ghost use Rattle.road.specs.Judge.{sourceVerdict, receiverVerdict};
-ghost use Rattle.road.specs.Inner.{voicesOf, partOf, hearOf, Modest, Moderate};
+ghost use Rattle.road.specs.Inner.{voicesOf, voicedPart, hearOf, Modest, Moderate};
 
 // How far two numbers are apart.
 fn apart(a: u32, b: u32) -> u64
@@ -93,7 +93,7 @@ fn weather(c: u64, h: u64, near: u64) -> u32
 fn share(steps: &[u32; 1000], v: Voice, way: Term, c: u64, h: u64, near: u64) -> Part
     requires { ⌜ (now steps ≡ table) × Modest v × (way .up ≤ 100000) × (way .down ≤ 100000) ⌝ }
     requires { ⌜ (c ≤ 1000) × (h ≤ 1000) × (1 ≤ near) × (near ≤ 1000000) ⌝ }
-    ensures { λ p. ⌜ p ≡ partOf v (way ⊕ weatherTerm c h near) ⌝ }
+    ensures { λ p. ⌜ p ≡ voicedPart v (way ⊕ weatherTerm c h near) ⌝ }
 {
     if !v.sounds {
         return Part {

@@ -13,7 +13,7 @@ use Rattle.road.specs.declared.Source.{Source}
 use Rattle.road.specs.declared.Verdict.{Verdict}
 use Rattle.road.specs.declared.Verdict.the-variants as verdict
 use Rattle.road.proofs.Judged.{ByFields}
-use Rattle.codec.specs.declared.Call.{Call}
+use Rattle.codec.specs.declared.Request.{Request}
 use Rattle.codec.specs.declared.Reading.{Reading}
 use Rattle.codec.specs.declared.Written.{Written}
 use Rattle.codec.specs.declared.Written.the-variants as written
@@ -31,7 +31,7 @@ either-read : (t : Bool) (a b : Reading) → Read a → Read b → Read (cond t 
 either-read true a b m n = m
 either-read false a b m n = n
 
-judged-read : (v : Verdict) (c : Call) (s : Source) → ByFields v → Read (judged v c s)
+judged-read : (v : Verdict) (c : Request) (s : Source) → ByFields v → Read (judged v c s)
 judged-read verdict.Allowed c s n = inl refl
 judged-read (verdict.Refused why) c s n = inr (omega (arith, n .0), n .1)
 
@@ -54,7 +54,7 @@ written-by verdict.Allowed bytes out n = go (ltb (length out) (length bytes))
     go true = inr (inl refl)
     go false = inl refl
 
-writer : (call : Call) (source : Source) (out : List ℕ) → WriterNumber (numberWritten (writeOf call source out .0))
+writer : (call : Request) (source : Source) (out : List ℕ) → WriterNumber (numberWritten (writeOf call source out .0))
 unfolding writeOf
 writer call source out = written-by (verdictOf call source) (recordOf call source) out (verdict-by call source)
 

@@ -6,7 +6,7 @@ use mathlib.Core.Logic.{_⊎_}
 use mathlib.Core.List.{List}
 use Rattle.answer.specs.Table.{Between}
 use Rattle.road.specs.declared.Source.{Source}
-use Rattle.codec.specs.declared.Call.{Call}
+use Rattle.codec.specs.declared.Request.{Request}
 use Rattle.codec.specs.Record.{readOf, writeOf, numberTold, numberWritten}
 
 abbrev pub ReaderNumber : ℕ → Type 0
@@ -18,4 +18,4 @@ WriterNumber n = (n ≡ 0) ⊎ ((n ≡ 2) ⊎ Between 5 7 n)
 -- for any bytes, and for any call, source and output
 pub record Numbers : Type 0 where
   pub reader : (job : List ℕ) → ReaderNumber (numberTold (readOf job .told))
-  pub writer : (call : Call) (source : Source) (out : List ℕ) → WriterNumber (numberWritten (writeOf call source out .0))
+  pub writer : (call : Request) (source : Source) (out : List ℕ) → WriterNumber (numberWritten (writeOf call source out .0))

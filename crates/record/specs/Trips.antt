@@ -7,7 +7,7 @@ use lib.ListN.{length, take, drop}
 use Rattle.layout.specs.Layout.{Bytes}
 use Rattle.answer.specs.declared.Refusal.{Refusal}
 use Rattle.road.specs.declared.Source.{Source}
-use Rattle.codec.specs.declared.Call.{Call}
+use Rattle.codec.specs.declared.Request.{Request}
 use Rattle.codec.specs.declared.Told.the-variants as told
 use Rattle.codec.specs.declared.Written.{Written}
 use Rattle.codec.specs.declared.Written.the-variants as written
@@ -16,14 +16,14 @@ use Rattle.codec.specs.Record.{reading, readOf, extentOf, partOf, writeOf}
 
 pub record Trips : Type 0 where
   -- a record that is read, and written again where there is room for it: the same bytes, and the output past them stays
-  pub write-read : (job out : List ℕ) (call : Call) (source : Source) → Bytes job → extentOf job ≤ length out
-      → readOf job ≡ reading (told.Call call) source
+  pub write-read : (job out : List ℕ) (call : Request) (source : Source) → Bytes job → extentOf job ≤ length out
+      → readOf job ≡ reading (told.Request call) source
       → _≡_ {A = Written × List ℕ} (writeOf call source out) (written.Done, take (extentOf job) job ++ drop (extentOf job) out)
   -- a call that is written, and read again: the same call, and its source where it has one. (A source of the code has three periods)
-  pub read-written : (call : Call) (source : Source) (out after : List ℕ) → Bytes out → length (source .traffic) ≡ 3
+  pub read-written : (call : Request) (source : Source) (out after : List ℕ) → Bytes out → length (source .traffic) ≡ 3
       → _≡_ {A = Written × List ℕ} (writeOf call source out) (written.Done, after)
-      → readOf after ≡ reading (told.Call call) (sourceWith call source)
+      → readOf after ≡ reading (told.Request call) (sourceWith call source)
   -- the part of a record that is read is its bytes, from the first of the job on
-  pub part-read : (job : List ℕ) (call : Call) → readOf job .told ≡ told.Call call → partOf job ≡ take (extentOf job) job
+  pub part-read : (job : List ℕ) (call : Request) → readOf job .told ≡ told.Request call → partOf job ≡ take (extentOf job) job
   -- the part of a record that is refused is empty
   pub part-refused : (job : List ℕ) (why : Refusal) → readOf job .told ≡ told.Refused why → partOf job ≡ []

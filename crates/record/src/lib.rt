@@ -1,6 +1,6 @@
 // Job records for any caller (document 01, 'Units and fields'): no call here requires anything.
 // What a record is, and how it is read and written, is in `codec`; here each call makes the level table that `codec` is lent.
-pub use codec::Call;
+pub use codec::Request;
 pub use codec::Reading;
 pub use codec::Told;
 pub use codec::Written;
@@ -32,7 +32,7 @@ fn part_size(job: &[u8]) -> usize
     let n = extent(job);
     let told = read(job).told;
     match told {
-        Told::Call(_) => n,
+        Told::Request(_) => n,
         Told::Refused(_) => 0,
     }
 }
@@ -46,7 +46,7 @@ pub fn part(job: &[u8]) -> &[u8]
 }
 
 // Writes the record of a call at the front of out. A refusal writes nothing.
-pub fn write(call: Call, source: Source, out: &mut [u8]) -> Written
+pub fn write(call: Request, source: Source, out: &mut [u8]) -> Written
     ensures { λ r. ⌜ (r, now (out .exit)) ≡ writeOf call source (now (out .entry)) ⌝ }
 {
     let steps = level::table::steps();

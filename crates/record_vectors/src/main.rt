@@ -2,7 +2,7 @@
 // A line is the length of the part, and then the output of 32 bytes FF after writing, or the number and the place of a refusal.
 use answer::Refusal;
 use libc::STDOUT_FILENO;
-use record::Call;
+use record::Request;
 use record::Told;
 use record::Written;
 use road::Source;
@@ -31,7 +31,7 @@ fn print_refusal(why: Refusal) {
 }
 
 // Writes a call, and prints why not, if it is refused, and what the output holds then.
-fn write(call: Call, source: Source, out: &mut [u8]) {
+fn write(call: Request, source: Source, out: &mut [u8]) {
     match record::write(call, source, out) {
         Written::Done => {}
         Written::Refused(why) => {
@@ -52,7 +52,7 @@ fn again(job: &[u8]) {
     let told = reading.told;
     let source = reading.source;
     match told {
-        Told::Call(call) => {
+        Told::Request(call) => {
             let mut out = [255u8; 32];
             write(call, source, &mut out);
         }
@@ -108,6 +108,6 @@ fn main() {
     // the writer: slot 64, and an output of one byte
     let source = record::read(b"").source;
     let mut short = [255u8; 1];
-    write(Call::Ask(64), source, &mut short);
-    write(Call::Ask(5), source, &mut short);
+    write(Request::Ask(64), source, &mut short);
+    write(Request::Ask(5), source, &mut short);
 }

@@ -25,7 +25,7 @@ use Rattle.road.specs.declared.Part.{Part}
 use Rattle.road.specs.Term.{term, _⊕_, period}
 use Rattle.road.specs.Emission.{emissionLevel}
 use Rattle.road.specs.Reach.{square, planSquare, spaceSquare, lengthTerm, distanceTerm, groundTerm, wallsTerm, weatherOf, weatherTerm, rayHeight, shareLevel, energyShare, tooLoud, shareOf, loudIn, sharesOf, pairOf}
-use Rattle.road.specs.Inner.{silent, voiceOf, voicesOf, partOf, wayOf, partIn, told, hearOf}
+use Rattle.road.specs.Inner.{silent, voiceOf, voicesOf, voicedPart, wayOf, partIn, pairBy, hearOf}
 use Rattle.road.proofs.Bounds.{times, lv-small}
 use Rattle.road.proofs.Sums.{term-eq, Small}
 
@@ -83,9 +83,9 @@ level-is s r i = same (emissionLevel s i) (lengthTerm (s .length)) _ _ _ _
 partWith : Bool → ℕ → Part
 partWith loud e = record { loud = loud; energy = cond loud 0 e }
 
-part-voiced : (v : Voice) (t : Term) (l : Term) → v .sounds ≡ true → v .level ⊕ t ≡ l → partOf v t ≡ partWith (tooLoud l) (energyShare l)
-unfolding partOf partWith
-part-voiced v t l e f = rw (e, partOf) (ap (λ (x : Term). chosen (tooLoud x) (energyShare x)) f ∙ go (tooLoud l))
+part-voiced : (v : Voice) (t : Term) (l : Term) → v .sounds ≡ true → v .level ⊕ t ≡ l → voicedPart v t ≡ partWith (tooLoud l) (energyShare l)
+unfolding voicedPart partWith
+part-voiced v t l e f = rw (e, voicedPart) (ap (λ (x : Term). chosen (tooLoud x) (energyShare x)) f ∙ go (tooLoud l))
   where
     chosen : Bool → ℕ → Part
     chosen b n = cond b (record { loud = true; energy = 0 }) (record { loud = false; energy = n })
@@ -95,7 +95,7 @@ part-voiced v t l e f = rw (e, partOf) (ap (λ (x : Term). chosen (tooLoud x) (e
     go false = refl
 
 part-is : (s : Source) (r : Receiver) (i : ℕ)
-    → partOf (voiceOf s i) (wayOf (planSquare s r) (spaceSquare s r) (rayHeight r) i) ≡ partWith (loudIn s r i) (shareOf s r i)
+    → voicedPart (voiceOf s i) (wayOf (planSquare s r) (spaceSquare s r) (rayHeight r) i) ≡ partWith (loudIn s r i) (shareOf s r i)
 unfolding voiceOf loudIn shareOf
 part-is s r i = go (eqb (period s i .m) 0)
   where
@@ -103,29 +103,29 @@ part-is s r i = go (eqb (period s i .m) 0)
     sent = record { sounds = true; level = emissionLevel s i ⊕ lengthTerm (s .length) ⊕ wallsTerm (s .walls) (s .height) (s .spacing) }
 
     go : (b : Bool)
-        → partOf (cond b silent sent) (wayOf (planSquare s r) (spaceSquare s r) (rayHeight r) i)
+        → voicedPart (cond b silent sent) (wayOf (planSquare s r) (spaceSquare s r) (rayHeight r) i)
         ≡ partWith (cond b false (tooLoud (shareLevel s r i))) (cond b 0 (energyShare (shareLevel s r i)))
     go true = nothing (wayOf (planSquare s r) (spaceSquare s r) (rayHeight r) i)
       where
-        nothing : (t : Term) → partOf silent t ≡ partWith false 0
-        nothing t = unfold partOf partWith in refl
+        nothing : (t : Term) → voicedPart silent t ≡ partWith false 0
+        nothing t = unfold voicedPart partWith in refl
     go false = part-voiced sent (wayOf (planSquare s r) (spaceSquare s r) (rayHeight r) i) (shareLevel s r i) refl (level-is s r i)
 
-told-is : (a b d : Bool) (x y z : ℕ)
-    → told (partWith a x) (partWith b y) (partWith d z) ≡ cond (a || b || d) (Barred Loud) (Heard (record { day = x; evening = y; night = z }))
+pair-by-is : (a b d : Bool) (x y z : ℕ)
+    → pairBy (partWith a x) (partWith b y) (partWith d z) ≡ cond (a || b || d) (Barred Loud) (Heard (record { day = x; evening = y; night = z }))
 unfolding partWith
-told-is true b d x y z = refl
-told-is false true d x y z = refl
-told-is false false true x y z = refl
-told-is false false false x y z = refl
+pair-by-is true b d x y z = refl
+pair-by-is false true d x y z = refl
+pair-by-is false false true x y z = refl
+pair-by-is false false false x y z = refl
 
 pub hear-is : (s : Source) (r : Receiver)
     → hearOf (voicesOf s) (planSquare s r) (spaceSquare s r) (rayHeight r)
     ≡ cond (loudIn s r 0 || loudIn s r 1 || loudIn s r 2) (Barred Loud) (Heard (sharesOf s r))
 unfolding hearOf voicesOf sharesOf
 hear-is s r =
-    (λ i. told (part-is s r 0 i) (part-is s r 1 i) (part-is s r 2 i))
-    ∙ told-is (loudIn s r 0) (loudIn s r 1) (loudIn s r 2) (shareOf s r 0) (shareOf s r 1) (shareOf s r 2)
+    (λ i. pairBy (part-is s r 0 i) (part-is s r 1 i) (part-is s r 2 i))
+    ∙ pair-by-is (loudIn s r 0) (loudIn s r 1) (loudIn s r 2) (shareOf s r 0) (shareOf s r 1) (shareOf s r 2)
 
 -- ---- the pair's answer, case by case
 

@@ -21,7 +21,7 @@ use Rattle.road.specs.Term.{term, adds, takes, _⊕_, period}
 use Rattle.road.specs.Emission.{vehicles, trafficTerm, carSpeed, truckSpeed, carLevel, truckLevel, truckGain, speedTerm, surfaceTable, surfaceColumn, surfaceEntry, surfaceTerm, gradientTerm, reflectionTerm, emissionLevel}
 use Rattle.road.specs.Reach.{lengthTerm, distanceTerm, groundTerm, wallsTerm, weatherTerm, energyShare, tooLoud}
 use Rattle.road.specs.Judge.{sourceVerdict}
-use Rattle.road.specs.Inner.{paceOf, speedBy, steadyTerm, silent, voiceBy, voiceOf, voicesOf, partOf, Modest, Moderate}
+use Rattle.road.specs.Inner.{paceOf, speedBy, steadyTerm, silent, voiceBy, voiceOf, voicesOf, voicedPart, Modest, Moderate}
 use Rattle.road.proofs.Bounds.{times, lv-small, car-most, gain-small, gain-energy}
 use Rattle.road.proofs.Fit.{FitTraffic, FitSource}
 
@@ -198,23 +198,23 @@ moderate s f = record { day = modest s 0 f (f .day); evening = modest s 1 f (f .
 
 -- ---- the share of a voice, case by case: u and d are the two sides of its level at the point
 
-pub part-silent : (v : Voice) (t : Term) → v .sounds ≡ false → partOf v t ≡ record { loud = false; energy = 0 }
-unfolding partOf
-part-silent v t e = rw (e, partOf)
+pub part-silent : (v : Voice) (t : Term) → v .sounds ≡ false → voicedPart v t ≡ record { loud = false; energy = 0 }
+unfolding voicedPart
+part-silent v t e = rw (e, voicedPart)
 
 module _ (v : Voice) (t : Term) (u d : ℕ) (e : v .sounds ≡ true) (up : u ≡ v .level .up + t .up) (down : d ≡ v .level .down + t .down) where
-  pub part-below : u < d → partOf v t ≡ record { loud = false; energy = 0 }
-  unfolding partOf energyShare
+  pub part-below : u < d → voicedPart v t ≡ record { loud = false; energy = 0 }
+  unfolding voicedPart energyShare
   part-below h =
-      rw (e, le-ltb 9000 ((v .level ⊕ t) .up - (v .level ⊕ t) .down) (omega arith), lt-ltb ((v .level ⊕ t) .up) ((v .level ⊕ t) .down) (omega arith), partOf, energyShare)
+      rw (e, le-ltb 9000 ((v .level ⊕ t) .up - (v .level ⊕ t) .down) (omega arith), lt-ltb ((v .level ⊕ t) .up) ((v .level ⊕ t) .down) (omega arith), voicedPart, energyShare)
 
-  pub part-loud : 9000 < u - d → partOf v t ≡ record { loud = true; energy = 0 }
-  unfolding partOf
-  part-loud h = rw (e, lt-ltb 9000 ((v .level ⊕ t) .up - (v .level ⊕ t) .down) (omega arith), partOf)
+  pub part-loud : 9000 < u - d → voicedPart v t ≡ record { loud = true; energy = 0 }
+  unfolding voicedPart
+  part-loud h = rw (e, lt-ltb 9000 ((v .level ⊕ t) .up - (v .level ⊕ t) .down) (omega arith), voicedPart)
 
-  pub part-heard : d ≤ u → u - d ≤ 9000 → partOf v t ≡ record { loud = false; energy = energyOf (u - d) }
-  unfolding partOf energyShare
+  pub part-heard : d ≤ u → u - d ≤ 9000 → voicedPart v t ≡ record { loud = false; energy = energyOf (u - d) }
+  unfolding voicedPart energyShare
   part-heard h l =
       let k : (v .level ⊕ t) .up - (v .level ⊕ t) .down ≡ u - d = omega arith in
-      rw (e, le-ltb 9000 ((v .level ⊕ t) .up - (v .level ⊕ t) .down) (omega arith), le-ltb ((v .level ⊕ t) .up) ((v .level ⊕ t) .down) (omega arith), partOf, energyShare)
+      rw (e, le-ltb 9000 ((v .level ⊕ t) .up - (v .level ⊕ t) .down) (omega arith), le-ltb ((v .level ⊕ t) .up) ((v .level ⊕ t) .down) (omega arith), voicedPart, energyShare)
       (ap (λ (n : ℕ). record { loud = false; energy = energyOf n }) k)

@@ -1,4 +1,4 @@
--- Values that only inner functions of this crate and of reach hand on: what a road sends out, and a share before it is told to the caller.
+-- Values that only inner functions of this crate and of reach hand on: what a road sends out, and a share before it is pairBy to the caller.
 -- A reader of the promises can pass over this file.
 use Prim.Native.Nat.{ℕ, _+_, _-_, _*_, _≤_}
 use mathlib.Core.Bool.{Bool, true, false, cond, not, _||_}
@@ -57,8 +57,8 @@ unfoldable pub voicesOf : Source → List Voice
 voicesOf s = voiceOf s 0 ∷ voiceOf s 1 ∷ voiceOf s 2 ∷ []
 
 -- the share of a voice by a way
-unfoldable pub partOf : Voice → Term → Part
-partOf v t =
+unfoldable pub voicedPart : Voice → Term → Part
+voicedPart v t =
     cond (v .sounds)
     (cond (tooLoud (v .level ⊕ t))
     (record { loud = true; energy = 0 })
@@ -80,12 +80,12 @@ abbrev pub wayOf : ℕ → ℕ → ℕ → ℕ → Term
 wayOf q0 q h i = distanceTerm q (rootOf q) ⊕ groundTerm h (rootOf q) ⊕ weatherTerm (weatherOf i) h (rootOf q0)
 
 abbrev pub partIn : List Voice → ℕ → ℕ → ℕ → ℕ → Part
-partIn vs q0 q h i = partOf (getD vs i silent) (wayOf q0 q h i)
+partIn vs q0 q h i = voicedPart (getD vs i silent) (wayOf q0 q h i)
 
-abbrev pub told : Part → Part → Part → Pair
-told day evening night =
+abbrev pub pairBy : Part → Part → Part → Pair
+pairBy day evening night =
     cond (day .loud || evening .loud || night .loud) (Barred Loud)
     (Heard (record { day = day .energy; evening = evening .energy; night = night .energy }))
 
 unfoldable pub hearOf : List Voice → ℕ → ℕ → ℕ → Pair
-hearOf vs q0 q h = told (partIn vs q0 q h 0) (partIn vs q0 q h 1) (partIn vs q0 q h 2)
+hearOf vs q0 q h = pairBy (partIn vs q0 q h 0) (partIn vs q0 q h 1) (partIn vs q0 q h 2)

@@ -10,8 +10,8 @@ use lib.ListN.{length}
 use Rattle.answer.specs.declared.Refusal.{Refusal}
 use Rattle.answer.specs.declared.Refusal.the-variants.{Damaged}
 use Rattle.road.specs.declared.Source.{Source}
-use Rattle.codec.specs.declared.Call.{Call as Request}
-use Rattle.codec.specs.declared.Call.the-variants as request
+use Rattle.codec.specs.declared.Request.{Request}
+use Rattle.codec.specs.declared.Request.the-variants as request
 use Rattle.codec.specs.declared.Told.{Told}
 use Rattle.codec.specs.declared.Told.the-variants as told
 use Rattle.codec.specs.Record.{lengthOf, readOf, extentOf}
@@ -42,23 +42,23 @@ module _ (job store : List ℕ) where
   -- where the store is damaged
   answer-damaged : (t : Told) (s : Source) → damaged store ≡ true → (answer.Refused Damaged, store) ≡ answerTold t s store
   answer-damaged (told.Refused why) s d = on-damaged (λ (b : Book). refuse why) store d
-  answer-damaged (told.Call (request.PlaceReceiver j r)) s d = on-damaged (placeReceiver j r) store d
-  answer-damaged (told.Call (request.WithdrawReceiver j)) s d = on-damaged (withdrawReceiver j) store d
-  answer-damaged (told.Call (request.PlaceSource i)) s d = on-damaged (placeSource i s) store d
-  answer-damaged (told.Call (request.WithdrawSource i)) s d = on-damaged (withdrawSource i) store d
-  answer-damaged (told.Call (request.Ask j)) s d = on-damaged (askReceiver j) store d
+  answer-damaged (told.Request (request.PlaceReceiver j r)) s d = on-damaged (placeReceiver j r) store d
+  answer-damaged (told.Request (request.WithdrawReceiver j)) s d = on-damaged (withdrawReceiver j) store d
+  answer-damaged (told.Request (request.PlaceSource i)) s d = on-damaged (placeSource i s) store d
+  answer-damaged (told.Request (request.WithdrawSource i)) s d = on-damaged (withdrawSource i) store d
+  answer-damaged (told.Request (request.Ask j)) s d = on-damaged (askReceiver j) store d
 
   pub on-damage : damaged store ≡ true → deed (told.Refused Damaged) (extentOf job) (answer.Refused Damaged, store) ≡ doneTo job store
   unfolding doneTo
   on-damage d = ap (deed (readOf job .told) (extentOf job)) (answer-damaged (readOf job .told) (readOf job .source) d)
 
   -- where a call is read
-  pub called : (r : Request) (s : Source) (a : Answer) (u : List ℕ) (x : Outcome) (n : ℕ) → readOf job .told ≡ told.Call r → readOf job .source ≡ s
+  pub called : (r : Request) (s : Source) (a : Answer) (u : List ℕ) (x : Outcome) (n : ℕ) → readOf job .told ≡ told.Request r → readOf job .source ≡ s
       → (a, u) ≡ perform (callOf r s) store → x ≡ outcomeOf (slotIn r) a → n ≡ extentOf job → (record { outcome = x; extent = n }, u) ≡ doneTo job store
   unfolding doneTo
   called r s a u x n e f q y z =
       ap₂ (λ (o : Outcome) (m : ℕ). (at o m, u)) y z
-      ∙ ap (deed (told.Call r) (extentOf job)) (q ∙ ap (λ (v : Source). answerTold (told.Call r) v store) (sym f))
+      ∙ ap (deed (told.Request r) (extentOf job)) (q ∙ ap (λ (v : Source). answerTold (told.Request r) v store) (sym f))
       ∙ ap (λ (t : Told). deed t (extentOf job) (answerTold t (readOf job .source) store)) (sym e)
 
   -- and the store stays as it should

@@ -5,10 +5,10 @@ use mathlib.Core.Path.{_≡_, refl}
 use Rattle.undamaged.specs.declared.Answer.{Answer}
 use Rattle.undamaged.specs.declared.Answer.the-variants as answer
 use Rattle.undamaged.specs.Calls as calls
-use Rattle.service.specs.Service.{outcomeOf, numberIn, placeIn, Rows}
+use Rattle.service.specs.Service.{outcomeOf, outcomeNumber, outcomePlace, Rows}
 use Rattle.service.proofs.Stops.{same-number, stops}
 
-same-place : (slot : ℕ) (a : Answer) → placeIn (outcomeOf slot a) ≡ calls.placeIn a
+same-place : (slot : ℕ) (a : Answer) → outcomePlace (outcomeOf slot a) ≡ calls.placeIn a
 same-place slot answer.Done = refl
 same-place slot (answer.Levels den night) = refl
 same-place slot (answer.Refused why) = refl

@@ -17,7 +17,7 @@ use Rattle.road.specs.declared.Verdict.{Verdict}
 use Rattle.road.specs.declared.Verdict.the-variants as verdict
 use Rattle.road.proofs.Judged.{ByFields}
 use Rattle.store.specs.Store.{Book, damaged}
-use Rattle.codec.specs.declared.Call.{Call as Request}
+use Rattle.codec.specs.declared.Request.{Request}
 use Rattle.codec.specs.declared.Told.{Told}
 use Rattle.codec.specs.declared.Told.the-variants as told
 use Rattle.codec.specs.declared.Reading.{Reading}
@@ -32,10 +32,10 @@ use Rattle.undamaged.specs.Calls as calls
 use Rattle.undamaged.proofs.Entries.{on-sound}
 use Rattle.book.specs.History.{perform, BookNumber}
 use Rattle.book.proofs.Theorems.{of-this-book}
-use Rattle.service.specs.Service.{callOf, slotIn, slotTold, outcomeOf, answerTold, doneTo, numberIn, Stopping}
+use Rattle.service.specs.Service.{callOf, slotIn, slotTold, outcomeOf, answerTold, doneTo, outcomeNumber, Stopping}
 use Rattle.service.proofs.Laws.{goes-by}
 
-pub same-number : (slot : ℕ) (a : Answer) → numberIn (outcomeOf slot a) ≡ calls.numberIn a
+pub same-number : (slot : ℕ) (a : Answer) → outcomeNumber (outcomeOf slot a) ≡ calls.numberIn a
 same-number slot answer.Done = refl
 same-number slot (answer.Levels den night) = refl
 same-number slot (answer.Refused why) = refl
@@ -56,22 +56,22 @@ second false b e f = e
 
 module _ (s store : List ℕ) (d : damaged store ≡ false) where
   number : ℕ
-  number = numberIn (doneTo s store .0 .outcome)
+  number = outcomeNumber (doneTo s store .0 .outcome)
 
   -- where a refusal is read, the number is its
   refused-number : (why : Refusal) → readOf s .told ≡ told.Refused why → number ≡ numberOf why
   unfolding number doneTo
   refused-number why e =
-      ap (λ (t : Told). numberIn (outcomeOf (slotTold t) (answerTold t (readOf s .source) store .0))) e
-      ∙ ap (λ (o : Answer × List ℕ). numberIn (outcomeOf 0 (o .0))) (sym (on-sound (λ (b : Book). refuse why) store d))
+      ap (λ (t : Told). outcomeNumber (outcomeOf (slotTold t) (answerTold t (readOf s .source) store .0))) e
+      ∙ ap (λ (o : Answer × List ℕ). outcomeNumber (outcomeOf 0 (o .0))) (sym (on-sound (λ (b : Book). refuse why) store d))
 
   -- where a call is read, the number is the book's
-  called-number : (c : Request) → readOf s .told ≡ told.Call c → Apart number
+  called-number : (c : Request) → readOf s .told ≡ told.Request c → Apart number
   unfolding number doneTo
   called-number c e =
       subst Apart
       (sym
-      (ap (λ (t : Told). numberIn (outcomeOf (slotTold t) (answerTold t (readOf s .source) store .0))) e
+      (ap (λ (t : Told). outcomeNumber (outcomeOf (slotTold t) (answerTold t (readOf s .source) store .0))) e
       ∙ same-number (slotIn c) (perform (callOf c (readOf s .source)) store .0)))
       (book-apart _ (of-this-book .numbers (callOf c (readOf s .source)) store))
 
@@ -113,7 +113,7 @@ module _ (s store : List ℕ) (d : damaged store ≡ false) where
             on false f = apart number (whole-number e f) n
 
 pub stops : (job store : List ℕ) → 0 < length job → damaged store ≡ false
-    → (doneTo job store .0 .extent ≡ 0) ↔ Stopping (numberIn (doneTo job store .0 .outcome))
+    → (doneTo job store .0 .extent ≡ 0) ↔ Stopping (outcomeNumber (doneTo job store .0 .outcome))
 unfolding number
 stops job store h d = (
   λ e. stops-so job store d h (sym (goes-by job store) ∙ e),

@@ -10,8 +10,8 @@ use lib.ListN.{length}
 use Rattle.answer.specs.declared.Refusal.{Refusal}
 use Rattle.answer.specs.Table.{numberBy, placeBy}
 use Rattle.road.specs.declared.Source.{Source}
-use Rattle.codec.specs.declared.Call.{Call as Request}
-use Rattle.codec.specs.declared.Call.the-variants as request
+use Rattle.codec.specs.declared.Request.{Request}
+use Rattle.codec.specs.declared.Request.the-variants as request
 use Rattle.codec.specs.declared.Told.{Told}
 use Rattle.codec.specs.declared.Told.the-variants as told
 use Rattle.codec.specs.Record.{readOf, extentOf}
@@ -27,16 +27,16 @@ use Rattle.service.specs.declared.Deed.{Deed}
 
 -- ---- number and place of what comes of a record: by its refusal, if it is one
 
-abbrev pub refusalIn : Outcome → Option Refusal
-refusalIn Done = none
-refusalIn (Levels slot den night) = none
-refusalIn (Refused why) = some why
+abbrev pub outcomeRefusal : Outcome → Option Refusal
+outcomeRefusal Done = none
+outcomeRefusal (Levels slot den night) = none
+outcomeRefusal (Refused why) = some why
 
-abbrev pub numberIn : Outcome → ℕ
-numberIn o = numberBy (refusalIn o)
+abbrev pub outcomeNumber : Outcome → ℕ
+outcomeNumber o = numberBy (outcomeRefusal o)
 
-abbrev pub placeIn : Outcome → ℕ
-placeIn o = placeBy (refusalIn o)
+abbrev pub outcomePlace : Outcome → ℕ
+outcomePlace o = placeBy (outcomeRefusal o)
 
 -- ---- what comes of a record
 
@@ -64,11 +64,11 @@ outcomeOf slot (answer.Refused why) = Refused why
 
 -- what a reading comes to on a store: its call is done, or its refusal stands
 abbrev pub slotTold : Told → ℕ
-slotTold (told.Call c) = slotIn c
+slotTold (told.Request c) = slotIn c
 slotTold (told.Refused why) = 0
 
 abbrev pub answerTold : Told → Source → List ℕ → Answer × List ℕ
-answerTold (told.Call c) source store = perform (callOf c source) store
+answerTold (told.Request c) source store = perform (callOf c source) store
 answerTold (told.Refused why) source store = onStore (λ book. refuse why) store
 
 abbrev pub deed : Told → ℕ → Answer × List ℕ → Deed × List ℕ
@@ -87,8 +87,8 @@ Stopping n = (n ≡ 2) ⊎ (n ≡ 3)
 
 pub record Rows : Type 0 where
   -- each has the number and the place of the answer that it is made of
-  pub same-number : (slot : ℕ) (a : Answer) → numberIn (outcomeOf slot a) ≡ calls.numberIn a
-  pub same-place : (slot : ℕ) (a : Answer) → placeIn (outcomeOf slot a) ≡ calls.placeIn a
+  pub same-number : (slot : ℕ) (a : Answer) → outcomeNumber (outcomeOf slot a) ≡ calls.numberIn a
+  pub same-place : (slot : ℕ) (a : Answer) → outcomePlace (outcomeOf slot a) ≡ calls.placeIn a
   -- and there is no next record just where the record, on an undamaged store, is refused 2 or 3
   pub stops : (job store : List ℕ) → 0 < length job → damaged store ≡ false
-      → (doneTo job store .0 .extent ≡ 0) ↔ Stopping (numberIn (doneTo job store .0 .outcome))
+      → (doneTo job store .0 .extent ≡ 0) ↔ Stopping (outcomeNumber (doneTo job store .0 .outcome))

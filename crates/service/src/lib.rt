@@ -1,7 +1,7 @@
 // One record at the front of a job, read and done to a store that is known to be undamaged, with the level table lent.
 // What comes of it is a definition of specs/Service.antt, and the store stays undamaged.
 use answer::Refusal;
-use codec::Call;
+use codec::Request;
 use codec::Told;
 use index::Index;
 use road::Source;
@@ -27,15 +27,15 @@ pub struct Deed {
 }
 
 // The slot of a call.
-fn slot(call: Call) -> u16
+fn slot(call: Request) -> u16
     ensures { λ r. ⌜ r ≡ slotIn call ⌝ }
 {
     match call {
-        Call::PlaceReceiver(slot, _) => slot,
-        Call::WithdrawReceiver(slot) => slot,
-        Call::PlaceSource(slot) => slot,
-        Call::WithdrawSource(slot) => slot,
-        Call::Ask(slot) => slot,
+        Request::PlaceReceiver(slot, _) => slot,
+        Request::WithdrawReceiver(slot) => slot,
+        Request::PlaceSource(slot) => slot,
+        Request::WithdrawSource(slot) => slot,
+        Request::Ask(slot) => slot,
     }
 }
 
@@ -51,16 +51,16 @@ fn of_slot(slot: u16, answer: Answer) -> Outcome
 }
 
 // A call done to a store.
-fn perform(steps: &[u32; 1000], store: &mut [u8], call: Call, source: Source) -> Answer
+fn perform(steps: &[u32; 1000], store: &mut [u8], call: Request, source: Source) -> Answer
     requires { ⌜ (now steps ≡ table) × (damaged (now store) ≡ false) ⌝ }
     ensures { λ r. ⌜ (r, now (store .exit)) ≡ perform (callOf call source) (now (store .entry)) ⌝ }
 {
     match call {
-        Call::PlaceReceiver(slot, r) => undamaged::place_receiver(steps, store, slot, r),
-        Call::WithdrawReceiver(slot) => undamaged::withdraw_receiver(store, slot),
-        Call::PlaceSource(slot) => undamaged::place_source(steps, store, slot, source),
-        Call::WithdrawSource(slot) => undamaged::withdraw_source(steps, store, slot),
-        Call::Ask(slot) => undamaged::ask(steps, store, slot),
+        Request::PlaceReceiver(slot, r) => undamaged::place_receiver(steps, store, slot, r),
+        Request::WithdrawReceiver(slot) => undamaged::withdraw_receiver(store, slot),
+        Request::PlaceSource(slot) => undamaged::place_source(steps, store, slot, source),
+        Request::WithdrawSource(slot) => undamaged::withdraw_source(steps, store, slot),
+        Request::Ask(slot) => undamaged::ask(steps, store, slot),
     }
 }
 
@@ -78,7 +78,7 @@ pub fn serve(steps: &[u32; 1000], store: &mut [u8], job: &[u8]) -> Deed
             outcome: Outcome::Refused(why),
             extent,
         },
-        Told::Call(call) => {
+        Told::Request(call) => {
             let answer = perform(steps, store, call, source);
             Deed {
                 outcome: of_slot(slot(call), answer),

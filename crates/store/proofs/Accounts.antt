@@ -9,7 +9,8 @@ use lib.Dec.{leb}
 use Rattle.layout.proofs.Bounds.{both}
 use Rattle.road.specs.declared.Shares.{Shares}
 use Rattle.store.specs.declared.Account.{Account}
-use Rattle.store.specs.Account.{top, soundB, plusOf, minusOf, coversB}
+use Rattle.level.specs.Level.{top}
+use Rattle.store.specs.Account.{soundB, plusOf, minusOf, covers}
 
 -- three tests on pairs of numbers
 three : (a b c d e f : ℕ) → (leb a b && leb c d && leb e f) ≡ true → (a ≤ b) × (c ≤ d) × (e ≤ f)
@@ -21,7 +22,7 @@ three a b c d e f h =
 pub sound-le : (a : Account) → soundB a ≡ true → (a .day ≤ top) × (a .evening ≤ top) × (a .night ≤ top)
 sound-le a h = three (a .day) top (a .evening) top (a .night) top h
 
-pub covers-le : (a : Account) (s : Shares) → coversB a s ≡ true → (s .day ≤ a .day) × (s .evening ≤ a .evening) × (s .night ≤ a .night)
+pub covers-le : (a : Account) (s : Shares) → covers a s ≡ true → (s .day ≤ a .day) × (s .evening ≤ a .evening) × (s .night ≤ a .night)
 covers-le a s h = three (s .day) (a .day) (s .evening) (a .evening) (s .night) (a .night) h
 
 -- y is at most what x leaves of t where x + y is at most t
@@ -33,7 +34,7 @@ leaves x y t h = go (decLe y (t - x))
     go (no k) = lt-leb y (t - x) (omega arith) ∙ sym (lt-leb (x + y) t (omega arith))
 
 -- shares that were added can be taken off, and the account is as before
-pub covers-plus : (a : Account) (s : Shares) → coversB (plusOf a s) s ≡ true
+pub covers-plus : (a : Account) (s : Shares) → covers (plusOf a s) s ≡ true
 covers-plus a s =
     simp (
       le-leb (s .day) (a .day + s .day) (omega arith),

@@ -17,7 +17,7 @@ use Rattle.layout.proofs.Numbers.{bytes-append, bytes-drop}
 use Rattle.road.specs.declared.Source.{Source}
 use Rattle.store.specs.declared.Held.{Held}
 use Rattle.store.specs.Slots.{slotBytes, slots, found, slotOf, slotAt, entries, anyTorn, bytes, Each}
-use Rattle.store.specs.Store.{sourceSlots, receiverSlots, split, storeLength, sourceParty, heldParty, Book, book, damaged, bookOf, bytesOf, clearedBytes, emptyBook, SourceStands, HeldStands, SoundBook, sourceAt, receiverAt, laneOf, laneEntry, seatOf, seatEntry}
+use Rattle.store.specs.Store.{sourceSlots, receiverSlots, split, storeLength, sourceParty, heldParty, Book, book, damaged, bookOf, bookBytes, clearedBytes, emptyBook, SourceStands, HeldStands, SoundBook, sourceAt, receiverAt, laneOf, laneEntry, seatOf, seatEntry}
 use Rattle.store.proofs.Slots.{either-false, over-behind, length-bytes, bytes-are, length-entries, entry-at, whole-at, set-bytes, bytes-none, bytes-slots, slots-bytes, entries-stand, marked}
 use Rattle.store.proofs.Parties.{source-lawful, held-lawful}
 
@@ -62,8 +62,8 @@ torn-damage s a b l e f =
 
 -- ---- from bytes to the book and back
 
-pub bytes-book : (s : List ℕ) → Bytes s → damaged s ≡ false → bytesOf (bookOf s) ≡ s
-unfolding bytesOf bookOf
+pub bytes-book : (s : List ℕ) → Bytes s → damaged s ≡ false → bookBytes (bookOf s) ≡ s
+unfolding bookBytes bookOf
 bytes-book s b h =
     let u = undamaged s h in
     let e = sources-end in
@@ -86,18 +86,18 @@ sound-book s h =
       receivers-stand = entries-stand heldParty HeldStands held-lawful receiverSlots (drop split s) (u .2);
     }
 
-pub length-bytesOf : (b : Book) → SoundBook b → length (bytesOf b) ≡ storeLength
-unfolding bytesOf
+pub length-bytesOf : (b : Book) → SoundBook b → length (bookBytes b) ≡ storeLength
+unfolding bookBytes
 length-bytesOf b h =
     length-append (bytes sourceParty (b .sources)) (bytes heldParty (b .receivers))
     ∙ omega (arith, length-bytes sourceParty (b .sources), length-bytes heldParty (b .receivers), h .lanes, h .seats, many-sources, many-receivers, sources-end, receivers-end)
 
-pub bytesOf-bytes : (b : Book) → Bytes (bytesOf b)
-unfolding bytesOf
+pub bytesOf-bytes : (b : Book) → Bytes (bookBytes b)
+unfolding bookBytes
 bytesOf-bytes b = bytes-append (bytes sourceParty (b .sources)) (bytes heldParty (b .receivers)) (bytes-are sourceParty (b .sources)) (bytes-are heldParty (b .receivers))
 
-pub book-bytes : (b : Book) → SoundBook b → (damaged (bytesOf b) ≡ false) × (bookOf (bytesOf b) ≡ b)
-unfolding bytesOf bookOf
+pub book-bytes : (b : Book) → SoundBook b → (damaged (bookBytes b) ≡ false) × (bookOf (bookBytes b) ≡ b)
+unfolding bookBytes bookOf
 book-bytes b h =
     let x = bytes sourceParty (b .sources) in
     let y = bytes heldParty (b .receivers) in
@@ -177,15 +177,15 @@ no-held-left s j h l = drop-of-length-le (bookOf s .receivers) {i = j} (omega (a
 -- ---- a write of a slot
 
 pub set-source : (s : List ℕ) (i : ℕ) (o : Option Source) → Bytes s → damaged s ≡ false → i < 512
-    → over (i * 36) (slotBytes sourceParty o) s ≡ bytesOf (book (set (bookOf s .sources) i o) (bookOf s .receivers))
-unfolding bytesOf
+    → over (i * 36) (slotBytes sourceParty o) s ≡ bookBytes (book (set (bookOf s .sources) i o) (bookOf s .receivers))
+unfolding bookBytes
 set-source s i o b h l =
     ap (over (i * 36) (slotBytes sourceParty o)) (sym (bytes-book s b h))
     ∙ set-bytes sourceParty (bookOf s .sources) i o (bytes heldParty (bookOf s .receivers)) (omega (arith, sound-book s h .lanes))
 
 pub set-held : (s : List ℕ) (j : ℕ) (o : Option Held) → Bytes s → damaged s ≡ false → j < 64
-    → over (split + j * 33) (slotBytes heldParty o) s ≡ bytesOf (book (bookOf s .sources) (set (bookOf s .receivers) j o))
-unfolding bytesOf
+    → over (split + j * 33) (slotBytes heldParty o) s ≡ bookBytes (book (bookOf s .sources) (set (bookOf s .receivers) j o))
+unfolding bookBytes
 set-held s j o b h l =
     let x = bytes sourceParty (bookOf s .sources) in
     let y = bytes heldParty (bookOf s .receivers) in
@@ -232,7 +232,7 @@ pub record Holds (s : List ℕ) (b : Book) : Type 0 where
   pub whole : damaged s ≡ false
   pub is : bookOf s ≡ b
 
-pub holds-bytes : (b : Book) → SoundBook b → Holds (bytesOf b) b
+pub holds-bytes : (b : Book) → SoundBook b → Holds (bookBytes b) b
 holds-bytes b h = let e = book-bytes b h in record { bytes = bytesOf-bytes b; whole = e .0; is = e .1 }
 
 pub source-written : (s : List ℕ) (i : ℕ) (o : Option Source) → Bytes s → damaged s ≡ false → i < 512 → ((a : Source) → o ≡ some a → SourceStands a)
@@ -249,8 +249,8 @@ held-written s j o b h l k =
 
 -- ---- a cleared store
 
-cleared-is : clearedBytes ≡ bytesOf emptyBook
-unfolding clearedBytes bytesOf
+cleared-is : clearedBytes ≡ bookBytes emptyBook
+unfolding clearedBytes bookBytes
 cleared-is =
     let n : sourceSlots * 36 + receiverSlots * 33 ≡ storeLength = omega (arith, sources-end, receivers-end) in
     sym

@@ -20,7 +20,7 @@ use Rattle.road.proofs.Fit.{passed, fit-receiver}
 use Rattle.road.proofs.Periods.{periods-again}
 use Rattle.store.specs.declared.Held.{Held}
 use Rattle.store.specs.Account.{soundB}
-use Rattle.store.specs.Slots.{layoutOf}
+use Rattle.store.specs.Slots.{partyLayout}
 use Rattle.store.specs.Store.{allowedB, sourceFrom, sourceParty, heldFields, heldFrom, heldParty, SourceStands, HeldStands}
 use Rattle.store.proofs.Accounts.{sound-le}
 use Rattle.store.proofs.Slots.{Lawful}
@@ -54,7 +54,7 @@ most-fits s true false e f = simp (e, f)
 most-fits s false true e f = simp (e, f)
 most-fits s false false e f = simp (e, f)
 
-pub source-fits : (s : Source) → sourceVerdict s ≡ Allowed → Within (layoutOf sourceParty) (1 ∷ sourceFields s)
+pub source-fits : (s : Source) → sourceVerdict s ≡ Allowed → Within (partyLayout sourceParty) (1 ∷ sourceFields s)
 unfolding sourceVerdict
 source-fits s e =
     let first = firstOutside (sourceLeast s) (sourceMost s) (sourceFields s) in
@@ -81,7 +81,7 @@ source-lawful =
 
 -- ---- receivers
 
-pub held-fits : (h : Held) → HeldStands h → Within (layoutOf heldParty) (1 ∷ heldFields h)
+pub held-fits : (h : Held) → HeldStands h → Within (partyLayout heldParty) (1 ∷ heldFields h)
 held-fits h k =
     let r = fit-receiver (h .who) (k .0) in
     let s = sound-le (h .sums) (k .1) in

@@ -11,8 +11,8 @@ sound-settled l a = settled _ _
 room-settled : SettlesResult proofs.Account.room.Reads.Post
 room-settled l a = settled _ _
 
-holds-settled : SettlesResult proofs.Account.holds.Reads.Post
-holds-settled l a = settled _ _
+covers-settled : SettlesResult proofs.Account.covers.Reads.Post
+covers-settled l a = settled _ _
 
 plus-settled : SettlesResult proofs.Account.plus.Reads.Post
 plus-settled l a = settled _ _

@@ -19,7 +19,7 @@ use Rattle.layout.specs.Over.{over}
 use Rattle.layout.proofs.Numbers.{bytes-append, bytes-take, bytes-drop}
 use Rattle.layout.proofs.Bounds.{both}
 use Rattle.layout.proofs.Laws.{length-fields, fields-within, length-packed, packed-bytes, fields-packed, packed-fields, packed-zeros, fields-zeros}
-use Rattle.store.specs.Slots.{Party, Slot, Fit, empty, used, torn, allZero, layoutOf, slotSize, slotBy, slotOf, slotBytes, isTorn, entryOf, slotAt, slots, entries, anyTorn, bytes, Each}
+use Rattle.store.specs.Slots.{Party, Slot, Fit, empty, used, torn, allZero, partyLayout, slotSize, slotBy, slotOf, slotBytes, isTorn, entryOf, slotAt, slots, entries, anyTorn, bytes, Each}
 
 pub either-false : (x y : Bool) → (x || y) ≡ false → (x ≡ false) × (y ≡ false)
 either-false true y e = absurd (true≢false e)
@@ -86,10 +86,10 @@ lent-back ws vs s at h =
 -- what the laws of slots ask of a party: its layout is one that the code can handle; its fields come back, and so does one that may stand
 -- in the book, which fits its layout
 pub record Lawful {A : Type 0} (p : Party A) (Stands : A → Type 0) : Type 0 where
-  pub handled : sized (layoutOf p) ≡ true
+  pub handled : sized (partyLayout p) ≡ true
   pub refilled : (m : ℕ) (fs : List ℕ) → length fs ≡ length (p .widths) → p .to (p .from (m ∷ fs)) ≡ fs
   pub reread : (a : A) → Stands a → p .from (1 ∷ p .to a) ≡ a
-  pub fits : (a : A) → Stands a → Within (layoutOf p) (1 ∷ p .to a)
+  pub fits : (a : A) → Stands a → Within (partyLayout p) (1 ∷ p .to a)
   pub okay : (a : A) → Stands a → p .ok a ≡ true
   pub stands : (vs : List ℕ) → p .ok (p .from vs) ≡ true → Stands (p .from vs)
 
@@ -139,12 +139,12 @@ module _ {A : Type 0} (p : Party A) where
   pub length-slot : (o : Option A) → length (slotBytes p o) ≡ slotSize p
   unfolding slotBytes
   length-slot none = length-replicate {A = ℕ} (slotSize p) _
-  length-slot (some a) = length-packed (layoutOf p) (1 ∷ p .to a)
+  length-slot (some a) = length-packed (partyLayout p) (1 ∷ p .to a)
 
   pub slot-bytes : (o : Option A) → Bytes (slotBytes p o)
   unfolding slotBytes
   slot-bytes none = alike-bytes (slotSize p) _ (lit< tt)
-  slot-bytes (some a) = packed-bytes (layoutOf p) (1 ∷ p .to a)
+  slot-bytes (some a) = packed-bytes (partyLayout p) (1 ∷ p .to a)
 
   -- a slot as its mark says is the slot as it is found, where it is not torn
   pub marked : (vs : List ℕ) → isTorn (slotBy p vs) ≡ false
@@ -173,7 +173,7 @@ module _ {A : Type 0} (p : Party A) where
     pub rewritten : (s : List ℕ) → length s ≡ slotSize p → Bytes s → isTorn (slotOf p s) ≡ false → slotBytes p (entryOf (slotOf p s)) ≡ s
     unfolding slotOf slotBytes
     rewritten s l b h =
-        let ws = layoutOf p in
+        let ws = partyLayout p in
         let vs = fields ws s in
         let n : length vs ≡ length ws = length-fields ws s in
         let e : packed ws vs ≡ s = packed-fields ws s (law .handled) (omega arith) b ∙ take-all (slotSize p) s (omega arith) in
@@ -189,12 +189,12 @@ module _ {A : Type 0} (p : Party A) where
     pub reread-none : slotOf p (slotBytes p none) ≡ empty
     unfolding slotOf slotBytes
     reread-none =
-        ap (slotBy p) (fields-zeros (layoutOf p)) ∙ unused (replicate (length (layoutOf p)) 0) (zeros-are (length (layoutOf p)))
+        ap (slotBy p) (fields-zeros (partyLayout p)) ∙ unused (replicate (length (partyLayout p)) 0) (zeros-are (length (partyLayout p)))
 
     pub reread-some : (a : A) → Stands a → slotOf p (slotBytes p (some a)) ≡ used a
     unfolding slotOf slotBy slotBytes
     reread-some a h =
-        let ws = layoutOf p in
+        let ws = partyLayout p in
         let vs : List ℕ = 1 ∷ p .to a in
         ap (slotBy p) (ap (fields ws) (sym (append-nil (packed ws vs))) ∙ fields-packed ws vs [] (law .handled) (law .fits a h))
         ∙ ap (λ (x : A). cond (p .ok x) (used x) torn) (law .reread a h)
@@ -329,7 +329,7 @@ module _ {A : Type 0} (p : Party A) where
     entries-stand zero s h i a e = absurd (let y : _≡_ {A = ℕ} 0 1 = cc in omega arith)
     entries-stand (suc n) s h zero a e =
         let c = take (slotSize p) s in
-        entry-stands p Stands law (fields (layoutOf p) c) a (either-false (isTorn (slotOf p c)) (anyTorn (slots p n (drop (slotSize p) s))) h .0) e
+        entry-stands p Stands law (fields (partyLayout p) c) a (either-false (isTorn (slotOf p c)) (anyTorn (slots p n (drop (slotSize p) s))) h .0) e
     entries-stand (suc n) s h (suc i) a e =
         let c = take (slotSize p) s in
         entries-stand n (drop (slotSize p) s) (either-false (isTorn (slotOf p c)) (anyTorn (slots p n (drop (slotSize p) s))) h .1) i a e

@@ -3,12 +3,9 @@
 use Prim.Native.Nat.{ℕ, _+_, _-_}
 use mathlib.Core.Bool.{Bool, _&&_}
 use lib.Dec.{leb}
+use Rattle.level.specs.Level.{top}
 use Rattle.road.specs.declared.Shares.{Shares}
 use Rattle.store.specs.declared.Account.{Account}
-
--- the most that a sum may be, 512·10^15
-abbrev pub top : ℕ
-top = 512_000_000_000_000_000
 
 -- no sum is above it
 abbrev pub soundB : Account → Bool
@@ -23,8 +20,8 @@ abbrev pub minusOf : Account → Shares → Account
 minusOf a s = record { day = a .day - s .day; evening = a .evening - s .evening; night = a .night - s .night }
 
 -- no share is above its sum
-abbrev pub coversB : Account → Shares → Bool
-coversB a s = leb (s .day) (a .day) && leb (s .evening) (a .evening) && leb (s .night) (a .night)
+abbrev pub covers : Account → Shares → Bool
+covers a s = leb (s .day) (a .day) && leb (s .evening) (a .evening) && leb (s .night) (a .night)
 
 -- the shares lift no sum above the most it may be
 abbrev pub roomB : Account → Shares → Bool

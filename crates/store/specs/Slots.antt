@@ -37,11 +37,11 @@ module _ {A : Type 0} where
   -- ---- one slot
 
   -- the mark has a byte
-  abbrev pub layoutOf : Party A → List ℕ
-  layoutOf p = 8 ∷ p .widths
+  abbrev pub partyLayout : Party A → List ℕ
+  partyLayout p = 8 ∷ p .widths
 
   abbrev pub slotSize : Party A → ℕ
-  slotSize p = size (layoutOf p)
+  slotSize p = size (partyLayout p)
 
   -- all zero: not in use. Mark 1 and what may be in the book: in use. The rest is damage: a mark neither 0 nor 1; an unused slot not all
   -- zero; a used slot with what may not be in the book
@@ -50,12 +50,12 @@ module _ {A : Type 0} where
 
   -- the slot that stands at the front of bytes
   unfoldable pub slotOf : Party A → List ℕ → Slot A
-  slotOf p s = slotBy p (fields (layoutOf p) s)
+  slotOf p s = slotBy p (fields (partyLayout p) s)
 
   -- the bytes of a slot
   unfoldable pub slotBytes : Party A → Option A → List ℕ
   slotBytes p none = replicate (slotSize p) 0
-  slotBytes p (some a) = packed (layoutOf p) (1 ∷ p .to a)
+  slotBytes p (some a) = packed (partyLayout p) (1 ∷ p .to a)
 
   abbrev pub isTorn : Slot A → Bool
   isTorn empty = false

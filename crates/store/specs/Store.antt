@@ -17,7 +17,7 @@ use Rattle.store.specs.declared.Held.{Held}
 use Rattle.store.specs.declared.Lane.{Lane}
 use Rattle.store.specs.declared.Seat.{Seat}
 use Rattle.store.specs.Account.{soundB}
-use Rattle.store.specs.Slots.{Party, layoutOf, found, entries, anyTorn, bytes, Each}
+use Rattle.store.specs.Slots.{Party, partyLayout, found, entries, anyTorn, bytes, Each}
 
 -- ---- sizes, which nothing unfolds unasked
 
@@ -115,8 +115,8 @@ unfoldable pub bookOf : List ℕ → Book
 bookOf s = book (entries (found sourceParty s)) (entries (found heldParty (drop split s)))
 
 -- the bytes of a book
-unfoldable pub bytesOf : Book → List ℕ
-bytesOf b = bytes sourceParty (b .sources) ++ bytes heldParty (b .receivers)
+unfoldable pub bookBytes : Book → List ℕ
+bookBytes b = bytes sourceParty (b .sources) ++ bytes heldParty (b .receivers)
 
 -- a cleared store
 unfoldable pub clearedBytes : List ℕ
@@ -151,13 +151,13 @@ abbrev pub laneBy : List ℕ → Lane
 laneBy v = record { used = eqb (at v 0) 1; source = sourceFrom v }
 
 unfoldable pub laneOf : List ℕ → Lane
-laneOf s = laneBy (fields (layoutOf sourceParty) s)
+laneOf s = laneBy (fields (partyLayout sourceParty) s)
 
 abbrev pub seatBy : List ℕ → Seat
 seatBy v = record { used = eqb (at v 0) 1; held = heldFrom v }
 
 unfoldable pub seatOf : List ℕ → Seat
-seatOf s = seatBy (fields (layoutOf heldParty) s)
+seatOf s = seatBy (fields (partyLayout heldParty) s)
 
 -- who is in it
 abbrev pub laneEntry : Lane → Option Source

@@ -13,7 +13,8 @@ ghost use lib.ListN.{length};
 ghost use lib.Dec.{leb};
 ghost use Prim.Native.Nat.{_+_};
 ghost use Rattle.level.specs.Table.{table};
-ghost use Rattle.store.specs.Account.{top, soundB, plusOf, minusOf, coversB, roomB};
+ghost use Rattle.level.specs.Level.{top};
+ghost use Rattle.store.specs.Account.{soundB, plusOf, minusOf, covers, roomB};
 ghost use Rattle.store.specs.Store.{storeLength, damaged, clearedBytes};
 
 // The most that a sum may be.
@@ -70,8 +71,8 @@ impl Account {
     }
 
     // Whether no share is above its sum.
-    pub fn holds(self, s: Shares) -> bool
-        ensures { λ r. ⌜ r ≡ coversB self s ⌝ }
+    pub fn covers(self, s: Shares) -> bool
+        ensures { λ r. ⌜ r ≡ covers self s ⌝ }
     {
         (s.day <= self.day) & (s.evening <= self.evening) & (s.night <= self.night)
     }
@@ -90,7 +91,7 @@ impl Account {
 
     // The account with the shares taken off.
     pub fn minus(self, s: Shares) -> Account
-        requires { ⌜ coversB self s ≡ true ⌝ }
+        requires { ⌜ covers self s ≡ true ⌝ }
         ensures { λ r. ⌜ r ≡ minusOf self s ⌝ }
     {
         Account {

@@ -14,7 +14,7 @@ ghost use Prim.Native.Nat.{_+_, _*_, _<_};
 ghost use lib.ListN.{length, drop};
 ghost use Rattle.layout.specs.Layout.{fields};
 ghost use Rattle.layout.specs.Over.{over};
-ghost use Rattle.store.specs.Slots.{Fit, layoutOf, slotBy, slotBytes, found, isTorn, anyTorn};
+ghost use Rattle.store.specs.Slots.{Fit, partyLayout, slotBy, slotBytes, found, isTorn, anyTorn};
 ghost use Rattle.store.specs.Store.{storeLength, split, heldParty, heldFrom, heldFields, receiverAt, seatOf, HeldStands};
 
 // The mark, then fields 2 to 4 of document 01, then the three sums.
@@ -26,7 +26,7 @@ const SPLIT: usize = 18432;
 // The numbers of slot j.
 fn numbers(store: &[u8], j: usize) -> [u64; 7]
     requires { ⌜ (j < 64) × (length (now store) ≡ storeLength) ⌝ }
-    ensures { λ r. ⌜ r ≡ fields (layoutOf heldParty) (receiverAt j (now (store .entry))) ⌝ }
+    ensures { λ r. ⌜ r ≡ fields (partyLayout heldParty) (receiverAt j (now (store .entry))) ⌝ }
 {
     let ws = WIDTHS;
     let mut v = [0u64; 7];
@@ -36,7 +36,7 @@ fn numbers(store: &[u8], j: usize) -> [u64; 7]
 
 // The receiver and its account that numbers describe.
 fn held_from(v: &[u64; 7]) -> Held
-    requires { ⌜ Fit (layoutOf heldParty) 0 (now v) ⌝ }
+    requires { ⌜ Fit (partyLayout heldParty) 0 (now v) ⌝ }
     ensures { λ r. ⌜ r ≡ heldFrom (now (v .entry)) ⌝ }
 {
     let who = Receiver {
@@ -65,7 +65,7 @@ pub fn seat(store: &[u8], j: usize) -> Seat
 
 // Whether numbers are neither all zero nor those of a receiver in use.
 fn torn(v: &[u64; 7]) -> bool
-    requires { ⌜ Fit (layoutOf heldParty) 0 (now v) ⌝ }
+    requires { ⌜ Fit (partyLayout heldParty) 0 (now v) ⌝ }
     ensures { λ r. ⌜ r ≡ isTorn (slotBy heldParty (now (v .entry))) ⌝ }
 {
     if slot::blank(v) {

@@ -15,7 +15,7 @@ ghost use Rattle.layout.specs.Layout.{fields};
 ghost use Rattle.layout.specs.Over.{over};
 ghost use Rattle.road.specs.declared.Verdict.the-variants.{Allowed};
 ghost use Rattle.road.specs.Judge.{sourceFields, sourceVerdict};
-ghost use Rattle.store.specs.Slots.{Fit, layoutOf, slotBy, slotBytes, found, isTorn, anyTorn};
+ghost use Rattle.store.specs.Slots.{Fit, partyLayout, slotBy, slotBytes, found, isTorn, anyTorn};
 ghost use Rattle.store.specs.Store.{storeLength, sourceParty, sourceFrom, sourceAt, laneOf};
 
 // The mark, then fields 2 to 19 of document 01.
@@ -44,7 +44,7 @@ const WIDTHS: [u8; 19] = [
 // The numbers of slot i.
 fn numbers(store: &[u8], i: usize) -> [u64; 19]
     requires { ⌜ (i < 512) × (length (now store) ≡ storeLength) ⌝ }
-    ensures { λ r. ⌜ r ≡ fields (layoutOf sourceParty) (sourceAt i (now (store .entry))) ⌝ }
+    ensures { λ r. ⌜ r ≡ fields (partyLayout sourceParty) (sourceAt i (now (store .entry))) ⌝ }
 {
     let ws = WIDTHS;
     let mut v = [0u64; 19];
@@ -64,7 +64,7 @@ pub fn marked(store: &[u8], i: usize) -> bool
 
 // The source that numbers describe.
 fn source_from(v: &[u64; 19]) -> Source
-    requires { ⌜ Fit (layoutOf sourceParty) 0 (now v) ⌝ }
+    requires { ⌜ Fit (partyLayout sourceParty) 0 (now v) ⌝ }
     ensures { λ r. ⌜ r ≡ sourceFrom (now (v .entry)) ⌝ }
 {
     let day = Traffic {
@@ -110,7 +110,7 @@ pub fn lane(store: &[u8], i: usize) -> Lane
 
 // Whether numbers are neither all zero nor those of a source in use.
 fn torn(steps: &[u32; 1000], v: &[u64; 19]) -> bool
-    requires { ⌜ (now steps ≡ table) × Fit (layoutOf sourceParty) 0 (now v) ⌝ }
+    requires { ⌜ (now steps ≡ table) × Fit (partyLayout sourceParty) 0 (now v) ⌝ }
     ensures { λ r. ⌜ r ≡ isTorn (slotBy sourceParty (now (v .entry))) ⌝ }
 {
     if slot::blank(v) {

@@ -14,7 +14,7 @@ use Rattle.road.specs.Reach.{pairOf}
 use Rattle.store.specs.declared.Held.{Held}
 use Rattle.store.specs.Store.{Book, book}
 use Rattle.ledger.specs.Lists.{omap, present, every, firstBar, weigh}
-use Rattle.undamaged.specs.Calls.{Step, change, allow, intoFree, unlessBarred, unlessLate, more, hasRoom, sourceIn, receiverIn, placeSource, placeReceiver}
+use Rattle.undamaged.specs.Calls.{Step, change, allow, intoFree, unlessBarred, unlessLate, more, hasRoom, enterSource, enterReceiver, placeSource, placeReceiver}
 use Rattle.undamaged.specs.Order.{SourceOrder, ReceiverOrder, InOrder}
 
 module _ (i : ℕ) (s : Source) (b : Book) where
@@ -31,14 +31,14 @@ module _ (i : ℕ) (s : Source) (b : Book) where
   unfolding placeSource done timely clear
   source-order =
       record {
-        fields-first = λ why e. ap (λ (v : Verdict). allow v (sourceIn i s b)) e;
-        then-taken = λ a e f. ap (λ (v : Verdict). allow v (sourceIn i s b)) e ∙ ap (λ (o : Option Source). intoFree o clear) f;
+        fields-first = λ why e. ap (λ (v : Verdict). allow v (enterSource i s b)) e;
+        then-taken = λ a e f. ap (λ (v : Verdict). allow v (enterSource i s b)) e ∙ ap (λ (o : Option Source). intoFree o clear) f;
         then-barred = λ why e f g.
-            ap (λ (v : Verdict). allow v (sourceIn i s b)) e
+            ap (λ (v : Verdict). allow v (enterSource i s b)) e
             ∙ ap (λ (o : Option Source). intoFree o clear) f
             ∙ ap (λ (o : Option Refusal). unlessBarred o timely) g;
         then-late = λ e f g h.
-            ap (λ (v : Verdict). allow v (sourceIn i s b)) e
+            ap (λ (v : Verdict). allow v (enterSource i s b)) e
             ∙ ap (λ (o : Option Source). intoFree o clear) f
             ∙ ap (λ (o : Option Refusal). unlessBarred o timely) g
             ∙ ap (λ (t : Bool). unlessLate t done) h;
@@ -54,10 +54,10 @@ module _ (j : ℕ) (r : Receiver) (b : Book) where
   unfolding placeReceiver clear-of
   receiver-order =
       record {
-        fields-first = λ why e. ap (λ (v : Verdict). allow v (receiverIn j r b)) e;
-        then-taken = λ a e f. ap (λ (v : Verdict). allow v (receiverIn j r b)) e ∙ ap (λ (o : Option Held). intoFree o clear-of) f;
+        fields-first = λ why e. ap (λ (v : Verdict). allow v (enterReceiver j r b)) e;
+        then-taken = λ a e f. ap (λ (v : Verdict). allow v (enterReceiver j r b)) e ∙ ap (λ (o : Option Held). intoFree o clear-of) f;
         then-barred = λ why e f g.
-            ap (λ (v : Verdict). allow v (receiverIn j r b)) e
+            ap (λ (v : Verdict). allow v (enterReceiver j r b)) e
             ∙ ap (λ (o : Option Held). intoFree o clear-of) f
             ∙ ap (λ (o : Option Refusal). unlessBarred o (change (book (b .sources) (set (b .receivers) j (some (weigh (present (b .sources)) r)))))) g;
       }

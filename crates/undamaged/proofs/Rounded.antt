@@ -16,7 +16,8 @@ use Rattle.road.specs.Reach.{sharesOf, pairOf}
 use Rattle.store.specs.declared.Account.{Account}
 use Rattle.store.specs.declared.Held.{Held}
 use Rattle.store.specs.declared.Seat.{Seat}
-use Rattle.store.specs.Account.{top, soundB, minusOf}
+use Rattle.level.specs.Level.{top}
+use Rattle.store.specs.Account.{soundB, minusOf}
 use Rattle.store.specs.Store.{Book, HeldStands, SoundBook}
 use Rattle.store.proofs.Accounts.{sound-le}
 use Rattle.ledger.specs.declared.round.Stop.the-variants.{Nowhere, At}

@@ -16,7 +16,8 @@ use Rattle.road.specs.declared.Pair.{Pair}
 use Rattle.road.specs.declared.Pair.the-variants.{Heard, Barred}
 use Rattle.road.specs.Reach.{shareOf, sharesOf, pairOf}
 use Rattle.road.proofs.Pairs.{Sound, heard-is}
-use Rattle.store.specs.Account.{top, soundB}
+use Rattle.level.specs.Level.{top}
+use Rattle.store.specs.Account.{soundB}
 use Rattle.store.specs.Store.{sourceSlots, receiverSlots}
 use Rattle.ledger.specs.Lists.{present, All, sumOf, orBar, firstBar, weigh}
 use Rattle.undamaged.specs.Calls.{isHeard}

@@ -15,7 +15,7 @@ use Rattle.road.specs.Reach.{sharesOf, pairOf}
 use Rattle.road.proofs.Pairs.{heard-is}
 use Rattle.store.specs.declared.Account.{Account}
 use Rattle.store.specs.declared.Held.{Held}
-use Rattle.store.specs.Account.{coversB, roomB}
+use Rattle.store.specs.Account.{covers, roomB}
 use Rattle.ledger.specs.declared.round.Turn.the-variants.{Moved, Late}
 use Rattle.ledger.specs.declared.round.Stop.{Stop}
 use Rattle.ledger.specs.declared.round.Stop.the-variants.{Nowhere}
@@ -63,7 +63,7 @@ module _ (s : Source) where
   taking-stop j (some x ∷ l) = go (pairWith x) refl (taking-stop (suc j) l)
     where
       go : (p : Pair) → pairWith x ≡ p → stopAt (turnOf false s) (suc j) l ≡ Nowhere → orStop j (turnOf false s x) (stopAt (turnOf false s) (suc j) l) ≡ Nowhere
-      go (Heard h) e f = rw (going x (Heard h) e) (passes-on (coversB (x .sums) h) j _ (stopAt (turnOf false s) (suc j) l) ∙ f)
+      go (Heard h) e f = rw (going x (Heard h) e) (passes-on (covers (x .sums) h) j _ (stopAt (turnOf false s) (suc j) l) ∙ f)
       go (Bars b) e f = rw (going x (Bars b) e) f
 
   -- every pair from slot j on is heard
@@ -102,11 +102,11 @@ module _ (s : Source) where
   returns-in-time : (x : Held) → inTime (turnOf false s x) ≡ canReturn s x
   returns-in-time x = go (pairWith x) refl
     where
-      go : (p : Pair) → pairWith x ≡ p → inTime (turnOf false s x) ≡ (isHeard (pairWith x) && coversB (x .sums) (sharesOf s (x .who)))
+      go : (p : Pair) → pairWith x ≡ p → inTime (turnOf false s x) ≡ (isHeard (pairWith x) && covers (x .sums) (sharesOf s (x .who)))
       go (Heard h) e =
-          ap inTime (going x (Heard h) e) ∙ timely (coversB (x .sums) h) _ ∙ ap (coversB (x .sums)) (heard-is s (x .who) h e .0)
-          ∙ sym (ap (λ (q : Pair). isHeard q && coversB (x .sums) (sharesOf s (x .who))) e)
-      go (Bars b) e = ap inTime (going x (Bars b) e) ∙ sym (ap (λ (q : Pair). isHeard q && coversB (x .sums) (sharesOf s (x .who))) e)
+          ap inTime (going x (Heard h) e) ∙ timely (covers (x .sums) h) _ ∙ ap (covers (x .sums)) (heard-is s (x .who) h e .0)
+          ∙ sym (ap (λ (q : Pair). isHeard q && covers (x .sums) (sharesOf s (x .who))) e)
+      go (Bars b) e = ap inTime (going x (Bars b) e) ∙ sym (ap (λ (q : Pair). isHeard q && covers (x .sums) (sharesOf s (x .who))) e)
 
   pub taking-time : (l : List (Option Held)) → every (λ (x : Held). inTime (turnOf false s x)) (present l) ≡ every (canReturn s) (present l)
   taking-time [] = refl
@@ -119,10 +119,10 @@ module _ (s : Source) where
       go : (p : Pair) → pairWith x ≡ p → canReturn s x ≡ true → turnOf false s x ≡ Moved (less s x .sums)
       go (Heard h) e f =
           let q : h ≡ sharesOf s (x .who) = heard-is s (x .who) h e .0 in
-          let c = and-both (isHeard (pairWith x)) (coversB (x .sums) (sharesOf s (x .who))) f in
+          let c = and-both (isHeard (pairWith x)) (covers (x .sums) (sharesOf s (x .who))) f in
           going x (Heard h) e ∙ ap (λ (k : Shares). loweredBy (Heard k) (x .sums)) q ∙ ap (λ (b : Bool). cond b (Moved (less s x .sums)) Late) (c .1)
       go (Bars b) e f =
-          let c = and-both (isHeard (pairWith x)) (coversB (x .sums) (sharesOf s (x .who))) f in
+          let c = and-both (isHeard (pairWith x)) (covers (x .sums) (sharesOf s (x .who))) f in
           absurd (false-true (sym (ap isHeard e) ∙ c .0))
 
   pub taking-moved : (l : List (Option Held)) → every (canReturn s) (present l) ≡ true → map (movedBy (turnOf false s)) l ≡ map (omap (less s)) l

@@ -20,8 +20,8 @@ use Rattle.road.specs.Reach.{sharesOf, pairOf}
 use Rattle.road.specs.Judge.{sourceVerdict, receiverVerdict, slotVerdict, lastSource, lastReceiver}
 use Rattle.index.specs.Index.{ldenOf, lnightOf}
 use Rattle.store.specs.declared.Held.{Held}
-use Rattle.store.specs.Account.{plusOf, minusOf, coversB, roomB}
-use Rattle.store.specs.Store.{Book, book, damaged, bookOf, bytesOf, storeLength, clearedBytes}
+use Rattle.store.specs.Account.{plusOf, minusOf, covers, roomB}
+use Rattle.store.specs.Store.{Book, book, damaged, bookOf, bookBytes, storeLength, clearedBytes}
 use Rattle.ledger.specs.Lists.{omap, present, every, firstBar, weigh}
 use Rattle.undamaged.specs.declared.Answer.{Answer}
 use Rattle.undamaged.specs.declared.Answer.the-variants.{Done, Levels, Refused}
@@ -98,51 +98,51 @@ isHeard (Heard h) = true
 isHeard (Barred b) = false
 
 abbrev pub canReturn : Source → Held → Bool
-canReturn s x = isHeard (pairOf s (x .who)) && coversB (x .sums) (sharesOf s (x .who))
+canReturn s x = isHeard (pairOf s (x .who)) && covers (x .sums) (sharesOf s (x .who))
 
 -- ---- the calls: slot and fields first (5, 6, 7), then as each says
 
-abbrev pub sourceIn : ℕ → Source → Book → Step
-sourceIn i s b =
+abbrev pub enterSource : ℕ → Source → Book → Step
+enterSource i s b =
     intoFree (getD (b .sources) i none)
     (unlessBarred (firstBar (λ (x : Held). pairOf s (x .who)) 0 (b .receivers))
     (unlessLate (every (hasRoom s) (present (b .receivers)))
     (change (book (set (b .sources) i (some s)) (map (omap (more s)) (b .receivers))))))
 
 unfoldable pub placeSource : ℕ → Source → Book → Step
-placeSource i s b = allow (slotVerdict lastSource i (sourceVerdict s)) (sourceIn i s b)
+placeSource i s b = allow (slotVerdict lastSource i (sourceVerdict s)) (enterSource i s b)
 
-abbrev pub sourceOut : ℕ → Book → Step
-sourceOut i b =
+abbrev pub leaveSource : ℕ → Book → Step
+leaveSource i b =
     fromUsed (getD (b .sources) i none) (λ s.
     unlessLate (every (canReturn s) (present (b .receivers)))
     (change (book (set (b .sources) i none) (map (omap (less s)) (b .receivers)))))
 
 unfoldable pub withdrawSource : ℕ → Book → Step
-withdrawSource i b = allow (slotVerdict lastSource i Allowed) (sourceOut i b)
+withdrawSource i b = allow (slotVerdict lastSource i Allowed) (leaveSource i b)
 
-abbrev pub receiverIn : ℕ → Receiver → Book → Step
-receiverIn j r b =
+abbrev pub enterReceiver : ℕ → Receiver → Book → Step
+enterReceiver j r b =
     intoFree (getD (b .receivers) j none)
     (unlessBarred (firstBar (λ (s : Source). pairOf s r) 0 (b .sources))
     (change (book (b .sources) (set (b .receivers) j (some (weigh (present (b .sources)) r))))))
 
 unfoldable pub placeReceiver : ℕ → Receiver → Book → Step
-placeReceiver j r b = allow (slotVerdict lastReceiver j (receiverVerdict r)) (receiverIn j r b)
+placeReceiver j r b = allow (slotVerdict lastReceiver j (receiverVerdict r)) (enterReceiver j r b)
 
-abbrev pub receiverOut : ℕ → Book → Step
-receiverOut j b = fromUsed (getD (b .receivers) j none) (λ x. change (book (b .sources) (set (b .receivers) j none)))
+abbrev pub leaveReceiver : ℕ → Book → Step
+leaveReceiver j b = fromUsed (getD (b .receivers) j none) (λ x. change (book (b .sources) (set (b .receivers) j none)))
 
 unfoldable pub withdrawReceiver : ℕ → Book → Step
-withdrawReceiver j b = allow (slotVerdict lastReceiver j Allowed) (receiverOut j b)
+withdrawReceiver j b = allow (slotVerdict lastReceiver j Allowed) (leaveReceiver j b)
 
-abbrev pub heardAt : ℕ → Book → Step
-heardAt j b =
+abbrev pub indicesAt : ℕ → Book → Step
+indicesAt j b =
     fromUsed (getD (b .receivers) j none) (λ x.
     tell (Levels (ldenOf (x .sums .day) (x .sums .evening) (x .sums .night)) (lnightOf (x .sums .night))))
 
 unfoldable pub askReceiver : ℕ → Book → Step
-askReceiver j b = allow (slotVerdict lastReceiver j Allowed) (heardAt j b)
+askReceiver j b = allow (slotVerdict lastReceiver j Allowed) (indicesAt j b)
 
 -- ---- on bytes
 
@@ -150,7 +150,7 @@ askReceiver j b = allow (slotVerdict lastReceiver j Allowed) (heardAt j b)
 abbrev pub told : List ℕ → Step → Answer × List ℕ
 told s (refuse r) = (Refused r, s)
 told s (tell a) = (a, s)
-told s (change b) = (Done, bytesOf b)
+told s (change b) = (Done, bookBytes b)
 
 -- damage is looked for before all else
 unfoldable pub onStore : (Book → Step) → List ℕ → Answer × List ℕ

@@ -16,7 +16,7 @@ ghost use Rattle.level.specs.Table.{table};
 ghost use Rattle.road.specs.declared.Verdict.the-variants.{Allowed};
 ghost use Rattle.road.specs.Judge.{sourceVerdict, receiverVerdict};
 ghost use Rattle.store.specs.Store.{damaged, bookOf};
-ghost use Rattle.undamaged.specs.Calls.{told, sourceIn, sourceOut, receiverIn, receiverOut, heardAt, placeSource, withdrawSource, placeReceiver, withdrawReceiver, askReceiver};
+ghost use Rattle.undamaged.specs.Calls.{told, enterSource, leaveSource, enterReceiver, leaveReceiver, indicesAt, placeSource, withdrawSource, placeReceiver, withdrawReceiver, askReceiver};
 
 // What a call answers: done, the two indices of a receiver (L_DEN, then L_Night), or a refusal.
 pub enum Answer {
@@ -28,7 +28,7 @@ pub enum Answer {
 // Places a source whose fields and slot are allowed.
 fn enter_source(steps: &[u32; 1000], store: &mut [u8], i: usize, s: Source) -> Answer
     requires { ⌜ (now steps ≡ table) × (damaged (now store) ≡ false) × (i < 512) × (sourceVerdict s ≡ Allowed) ⌝ }
-    ensures { λ r. ⌜ (r, now (store .exit)) ≡ told (now (store .entry)) (sourceIn i s (bookOf (now (store .entry)))) ⌝ }
+    ensures { λ r. ⌜ (r, now (store .exit)) ≡ told (now (store .entry)) (enterSource i s (bookOf (now (store .entry)))) ⌝ }
 {
     let lane = store::sources::lane(store, i);
     if lane.used {
@@ -66,7 +66,7 @@ pub fn place_source(steps: &[u32; 1000], store: &mut [u8], slot: u16, s: Source)
 // Withdraws the source of a slot that is allowed.
 fn leave_source(steps: &[u32; 1000], store: &mut [u8], i: usize) -> Answer
     requires { ⌜ (now steps ≡ table) × (damaged (now store) ≡ false) × (i < 512) ⌝ }
-    ensures { λ r. ⌜ (r, now (store .exit)) ≡ told (now (store .entry)) (sourceOut i (bookOf (now (store .entry)))) ⌝ }
+    ensures { λ r. ⌜ (r, now (store .exit)) ≡ told (now (store .entry)) (leaveSource i (bookOf (now (store .entry)))) ⌝ }
 {
     let lane = store::sources::lane(store, i);
     if !lane.used {
@@ -98,7 +98,7 @@ pub fn withdraw_source(steps: &[u32; 1000], store: &mut [u8], slot: u16) -> Answ
 // Places a receiver whose fields and slot are allowed.
 fn enter_receiver(steps: &[u32; 1000], store: &mut [u8], j: usize, r: Receiver) -> Answer
     requires { ⌜ (now steps ≡ table) × (damaged (now store) ≡ false) × (j < 64) × (receiverVerdict r ≡ Allowed) ⌝ }
-    ensures { λ a. ⌜ (a, now (store .exit)) ≡ told (now (store .entry)) (receiverIn j r (bookOf (now (store .entry)))) ⌝ }
+    ensures { λ a. ⌜ (a, now (store .exit)) ≡ told (now (store .entry)) (enterReceiver j r (bookOf (now (store .entry)))) ⌝ }
 {
     let seat = store::receivers::seat(store, j);
     if seat.used {
@@ -132,7 +132,7 @@ pub fn place_receiver(steps: &[u32; 1000], store: &mut [u8], slot: u16, r: Recei
 // Withdraws the receiver of a slot that is allowed.
 fn leave_receiver(store: &mut [u8], j: usize) -> Answer
     requires { ⌜ (damaged (now store) ≡ false) × (j < 64) ⌝ }
-    ensures { λ r. ⌜ (r, now (store .exit)) ≡ told (now (store .entry)) (receiverOut j (bookOf (now (store .entry)))) ⌝ }
+    ensures { λ r. ⌜ (r, now (store .exit)) ≡ told (now (store .entry)) (leaveReceiver j (bookOf (now (store .entry)))) ⌝ }
 {
     let seat = store::receivers::seat(store, j);
     if !seat.used {
@@ -156,7 +156,7 @@ pub fn withdraw_receiver(store: &mut [u8], slot: u16) -> Answer
 // The indices of the receiver of a slot that is allowed.
 fn indices(steps: &[u32; 1000], store: &[u8], j: usize) -> Answer
     requires { ⌜ (now steps ≡ table) × (damaged (now store) ≡ false) × (j < 64) ⌝ }
-    ensures { λ r. ⌜ (r, now (store .entry)) ≡ told (now (store .entry)) (heardAt j (bookOf (now (store .entry)))) ⌝ }
+    ensures { λ r. ⌜ (r, now (store .entry)) ≡ told (now (store .entry)) (indicesAt j (bookOf (now (store .entry)))) ⌝ }
 {
     let seat = store::receivers::seat(store, j);
     if !seat.used {

@@ -3,7 +3,7 @@ use mathlib.Core.Path.{_≡_, refl, sym, ap, ap₂, _∙_}
 use Prim.Native.Nat.{ℕ, _+_, _-_, _*_, _/_, _≤_, _<_}
 use native.Mathlib.Omega.{arith}
 use borrow.Author.Needs.{needs}
-use Rattle.level.specs.Level.{heardOf}
+use Rattle.level.specs.Level.{loudnessOf}
 use Rattle.index.specs.Index.{levelIn, tenthsOf}
 use Rattle.index.proofs.Laws.{level-any, lifted-day, lifted-evening, lifted-night}
 use Rattle.index.proofs.lden.Statement.{statement}
@@ -55,7 +55,7 @@ in-tenths-requires c κs = rw (c .level .ensures) (level-any _ (omega (arith, lo
 returns : tie.Need-returns
 returns c =
     let l = c .before .before in
-    c .in-tenths .ensures ∙ ap tenthsOf (c .before .level .ensures) ∙ (λ i. tenthsOf (heardOf ((3 * l .before .before .lifted .ensures i + l .before .lifted2 .ensures i + 2 * l .lifted3 .ensures i) / 6)))
+    c .in-tenths .ensures ∙ ap tenthsOf (c .before .level .ensures) ∙ (λ i. tenthsOf (loudnessOf ((3 * l .before .before .lifted .ensures i + l .before .lifted2 .ensures i + 2 * l .lifted3 .ensures i) / 6)))
 
 pub lden-spec : {M : Type 1} → statement M
 lden-spec = tie.close (tie.spec lifted-requires lifted-requires-2 lifted-requires-3 mul-mean add-mean mul-mean-2 add-mean-2 level-requires in-tenths-requires returns)

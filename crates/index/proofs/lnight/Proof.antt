@@ -4,7 +4,7 @@ use Prim.Native.Nat.{ℕ, _+_, _-_, _*_, _/_, _≤_, _<_}
 use borrow.Author.Needs.{needs}
 use Rattle.index.specs.Index.{levelIn, tenthsOf}
 use Rattle.index.proofs.Laws.{level-any}
-use Rattle.level.specs.declared.Heard.{Heard}
+use Rattle.level.specs.declared.Loudness.{Loudness}
 use Rattle.index.proofs.lnight.Statement.{statement}
 use Rattle.index.proofs.lnight.Tie as tie
 

@@ -17,7 +17,7 @@ use Rattle.road.specs.declared.Pair.the-variants.{Heard, Barred}
 use Rattle.road.specs.declared.Part.{Part}
 use Rattle.road.specs.Term.{_⊕_}
 use Rattle.road.specs.Reach.{distanceTerm, groundTerm, weatherTerm, weatherOf}
-use Rattle.road.specs.Inner.{silent, partOf, partIn, told, hearOf}
+use Rattle.road.specs.Inner.{silent, voicedPart, partIn, pairBy, hearOf}
 use Rattle.road.proofs.Sums.{Small}
 use Rattle.road.proofs.Pairs.{Reached, reached, small-way}
 use Rattle.reach.proofs.hear.Statement.{statement}
@@ -80,7 +80,7 @@ share-requires-3 c κs =
 
 -- the share by the way and the root that were found is the part of the period
 heard : (c : tie.After-way) (i : ℕ) (x : Part)
-    → x ≡ partOf (getD (c .before .before .before .args .t2) i silent) (c .way .result ⊕ weatherTerm (weatherOf i) (c .before .before .before .args .h) (c .before .before .root .result))
+    → x ≡ voicedPart (getD (c .before .before .before .args .t2) i silent) (c .way .result ⊕ weatherTerm (weatherOf i) (c .before .before .before .args .h) (c .before .before .root .result))
     → x ≡ partIn (c .before .before .before .args .t2) (c .before .before .before .args .q0) (c .before .before .before .args .q) (c .before .before .before .args .h) i
 heard c i x e =
     let a = c .before .before .before .args in
@@ -88,26 +88,26 @@ heard c i x e =
     let n : c .before .before .root .result ≡ rootOf (a .q0) = root-settled (a .q0) _ (c .before .before .root .ensures) in
     let w : c .way .result ≡ distanceTerm (a .q) (rootOf (a .q)) ⊕ groundTerm (a .h) (rootOf (a .q)) =
     c .way .ensures ∙ ap (λ (r : ℕ). distanceTerm (a .q) r ⊕ groundTerm (a .h) r) f in
-    e ∙ (λ j. partOf (getD (a .t2) i silent) (w j ⊕ weatherTerm (weatherOf i) (a .h) (n j)))
+    e ∙ (λ j. voicedPart (getD (a .t2) i silent) (w j ⊕ weatherTerm (weatherOf i) (a .h) (n j)))
 
-told-loud : (a b d : Part) → (a .loud || b .loud || d .loud) ≡ true → told a b d ≡ Barred Loud
+told-loud : (a b d : Part) → (a .loud || b .loud || d .loud) ≡ true → pairBy a b d ≡ Barred Loud
 told-loud a b d e = rw e
 
-told-heard : (a b d : Part) → (a .loud || b .loud || d .loud) ≡ false → told a b d ≡ Heard (record { day = a .energy; evening = b .energy; night = d .energy })
+told-heard : (a b d : Part) → (a .loud || b .loud || d .loud) ≡ false → pairBy a b d ≡ Heard (record { day = a .energy; evening = b .energy; night = d .energy })
 told-heard a b d e = rw e
 
 module _ (c : tie.After-share3) where
   abbrev way : tie.After-way
   way = c .before .before .before .before .before .before
 
-  parts : told (c .before .before .before .before .share .result) (c .before .before .share2 .result) (c .share3 .result)
+  parts : pairBy (c .before .before .before .before .share .result) (c .before .before .share2 .result) (c .share3 .result)
       ≡ hearOf (way .before .before .before .args .t2) (way .before .before .before .args .q0) (way .before .before .before .args .q) (way .before .before .before .args .h)
   unfolding hearOf
   parts =
       let day = heard way 0 _ (c .before .before .before .before .share .ensures) in
       let evening = heard way 1 _ (c .before .before .share2 .ensures) in
       let night = heard way 2 _ (c .share3 .ensures) in
-      λ i. told (day i) (evening i) (night i)
+      λ i. pairBy (day i) (evening i) (night i)
 
 returns : tie.Need-returns
 returns c =

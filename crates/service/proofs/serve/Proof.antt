@@ -58,7 +58,7 @@ returns-2 c =
     let job = start .args .job .now in
     let store = start .args .store .now in
     let s = rd .result .source in
-    let e : readOf job .told ≡ told.Call (w .0 .0) = sym (ap (λ (x : Reading). x .told) (rd .ensures)) ∙ w .1 in
+    let e : readOf job .told ≡ told.Request (w .0 .0) = sym (ap (λ (x : Reading). x .told) (rd .ensures)) ∙ w .1 in
     let f : readOf job .source ≡ s = sym (ap (λ (x : Reading). x .source) (rd .ensures)) in (
       called job store (w .0 .0) s (p .result) _ _ _ e f (p .ensures)
           (c .of-slot .ensures ∙ ap (λ (k : ℕ). outcomeOf k (p .result)) (c .before .slot .ensures))

@@ -4,7 +4,7 @@ use Prim.Native.Nat.{_+_}
 use mathlib.Core.Path.{sym}
 use native.Mathlib.Omega.{arith}
 use borrow.Author.Tests.{lt-leb}
-use Rattle.store.specs.Account.{top}
+use Rattle.level.specs.Level.{top}
 use Rattle.store.proofs.Accounts.{leaves}
 use Rattle.store.proofs.fits.Statement.{statement}
 use Rattle.store.proofs.fits.Tie as tie

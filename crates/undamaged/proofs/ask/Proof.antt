@@ -6,7 +6,7 @@ use borrow.Author.Needs.{needs}
 use Rattle.road.specs.declared.Verdict.{Verdict}
 use Rattle.road.specs.declared.Verdict.the-variants.{Allowed}
 use Rattle.store.specs.Store.{bookOf}
-use Rattle.undamaged.specs.Calls.{told, allow, heardAt, askReceiver}
+use Rattle.undamaged.specs.Calls.{told, allow, indicesAt, askReceiver}
 use Rattle.road.proofs.Judged.{slot-allowed}
 use Rattle.undamaged.proofs.ask.Statement.{statement}
 use Rattle.undamaged.proofs.ask.Tie as tie
@@ -32,7 +32,7 @@ returns c =
     let j = c .before .before .before in
     let start = j .before .before in
     let s = start .args .store .now in
-    ap (λ (v : Verdict). told s (allow v (heardAt (start .args .slot) (bookOf s)))) (sym (c .before .why .given .1) ∙ j .judge-slot .ensures)
+    ap (λ (v : Verdict). told s (allow v (indicesAt (start .args .slot) (bookOf s)))) (sym (c .before .why .given .1) ∙ j .judge-slot .ensures)
 
 returns-2 : tie.Need-returns-2
 unfolding askReceiver
@@ -41,7 +41,7 @@ returns-2 c =
     let start = j .before .before in
     let s = start .args .store .now in
     c .indices .ensures
-    ∙ ap (λ (v : Verdict). told s (allow v (heardAt (start .args .slot) (bookOf s)))) (sym (c .before .enum-told .given .1) ∙ j .judge-slot .ensures)
+    ∙ ap (λ (v : Verdict). told s (allow v (indicesAt (start .args .slot) (bookOf s)))) (sym (c .before .enum-told .given .1) ∙ j .judge-slot .ensures)
 
 pub ask-spec : {M : Type 1} → statement M
 ask-spec = tie.close (tie.spec judge-slot-requires enum-known-why enum-told indices-requires returns returns-2)

@@ -11,7 +11,7 @@ use Rattle.road.specs.declared.Receiver.{Receiver}
 use Rattle.road.specs.Reach.{pairOf}
 use Rattle.store.specs.declared.Account.{Account}
 use Rattle.store.specs.declared.Held.{Held}
-use Rattle.store.specs.Store.{book, bookOf, bytesOf}
+use Rattle.store.specs.Store.{book, bookOf, bookBytes}
 use Rattle.store.proofs.Laws.{undamaged, set-held}
 use Rattle.undamaged.specs.declared.Answer.{Answer}
 use Rattle.undamaged.specs.declared.Answer.the-variants.{Done}
@@ -98,7 +98,7 @@ returns-3 c =
     let clear = stop-none (bar s r) (sym (g .gather .ensures .stop) ∙ p .before .before .before .enum-told .given .1) in
     ap (λ (u : List ℕ). (Done, u))
     (p .put-held .ensures ∙ set-held s j (held r (g .gather .result .sums)) (λ i. t .before .before .slice-known .given i .fits) (start .pre .1) (start .pre .2)
-    ∙ ap (λ (a : Account). bytesOf (book (bookOf s .sources) (set (bookOf s .receivers) j (held r a)))) (g .gather .ensures .sums clear))
+    ∙ ap (λ (a : Account). bookBytes (book (bookOf s .sources) (set (bookOf s .receivers) j (held r a)))) (g .gather .ensures .sums clear))
     ∙ ap₂ (in-slot s j r) (sym free) (sym clear)
 
 pub enter-receiver-spec : {M : Type 1} → statement M

@@ -10,7 +10,7 @@ use Rattle.answer.specs.declared.Refusal.{Refusal}
 use Rattle.road.specs.declared.Source.{Source}
 use Rattle.road.specs.Reach.{pairOf}
 use Rattle.store.specs.declared.Held.{Held}
-use Rattle.store.specs.Store.{Book, book, bookOf, bytesOf}
+use Rattle.store.specs.Store.{Book, book, bookOf, bookBytes}
 use Rattle.store.proofs.Laws.{undamaged, sound-book, set-source}
 use Rattle.undamaged.specs.declared.Answer.{Answer}
 use Rattle.undamaged.specs.declared.Answer.the-variants.{Done}
@@ -131,8 +131,8 @@ returns-4 c =
     let written = come-written a (bookOf s) (g .go-round .result) (g .go-round .ensures) nowhere timely in
     ap (λ (u : List ℕ). (Done, u))
     (p .put-source .ensures ∙ set-source _ i (some a) (λ k. p .before .before .slice-known2 .given k .fits) (w .write-seats .ensures .0) (start .pre .2)
-    ∙ ap (λ (b : Book). bytesOf (book (set (b .sources) i (some a)) (b .receivers))) (w .write-seats .ensures .1)
-    ∙ ap (λ (l : List (Option Held)). bytesOf (book (set (bookOf s .sources) i (some a)) l)) written)
+    ∙ ap (λ (b : Book). bookBytes (book (set (b .sources) i (some a)) (b .receivers))) (w .write-seats .ensures .1)
+    ∙ ap (λ (l : List (Option Held)). bookBytes (book (set (bookOf s .sources) i (some a)) l)) written)
     ∙ ap₂ (λ (o : Option Source) (b : Option Refusal). in-slot s i a o b true) (sym (free g)) (sym clear)
     ∙ ap (in-slot s i a (getD (bookOf s .sources) i none) (bar s a)) (sym fits)
 

@@ -6,7 +6,7 @@ use mathlib.Core.Option.{Option}
 use borrow.Author.Tests.{not-true, not-false}
 use borrow.Author.Tests.{leb-true}
 use Rattle.store.specs.declared.Held.{Held}
-use Rattle.store.specs.Account.{top}
+use Rattle.level.specs.Level.{top}
 use Rattle.store.proofs.Laws.{undamaged}
 use Rattle.undamaged.specs.declared.Answer.the-variants.{Levels}
 use Rattle.undamaged.specs.Calls.{Step, tell, told, fromUsed}

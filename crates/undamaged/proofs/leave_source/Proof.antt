@@ -9,7 +9,7 @@ use borrow.Author.Tests.{not-true, not-false}
 use lib.ListN.{getD, set}
 use Rattle.road.specs.declared.Source.{Source}
 use Rattle.store.specs.declared.Held.{Held}
-use Rattle.store.specs.Store.{Book, book, bookOf, bytesOf}
+use Rattle.store.specs.Store.{Book, book, bookOf, bookBytes}
 use Rattle.store.proofs.Laws.{undamaged, sound-book, set-source}
 use Rattle.undamaged.specs.declared.Answer.{Answer}
 use Rattle.undamaged.specs.declared.Answer.the-variants.{Done}
@@ -111,8 +111,8 @@ returns-3 c =
     let written = leave-written a (bookOf s) (g .go-round .result) (g .go-round .ensures) timely in
     ap (λ (u : List ℕ). (Done, u))
     (p .drop-source .ensures ∙ set-source _ i none (λ k. p .before .before .slice-known2 .given k .fits) (w .write-seats .ensures .0) (start .pre .2)
-    ∙ ap (λ (b : Book). bytesOf (book (set (b .sources) i none) (b .receivers))) (w .write-seats .ensures .1)
-    ∙ ap (λ (l : List (Option Held)). bytesOf (book (set (bookOf s .sources) i none) l)) written)
+    ∙ ap (λ (b : Book). bookBytes (book (set (b .sources) i none) (b .receivers))) (w .write-seats .ensures .1)
+    ∙ ap (λ (l : List (Option Held)). bookBytes (book (set (bookOf s .sources) i none) l)) written)
     ∙ ap (λ (b : Bool). told s (leaves s i a b)) (sym fits) ∙ ap (out s i) (sym (used g))
 
 pub leave-source-spec : {M : Type 1} → statement M

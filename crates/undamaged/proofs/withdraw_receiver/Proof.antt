@@ -6,7 +6,7 @@ use borrow.Author.Needs.{needs}
 use Rattle.road.specs.declared.Verdict.{Verdict}
 use Rattle.road.specs.declared.Verdict.the-variants.{Allowed}
 use Rattle.store.specs.Store.{bookOf}
-use Rattle.undamaged.specs.Calls.{told, allow, receiverOut, withdrawReceiver}
+use Rattle.undamaged.specs.Calls.{told, allow, leaveReceiver, withdrawReceiver}
 use Rattle.road.proofs.Judged.{slot-allowed}
 use Rattle.undamaged.proofs.Keeps.{receiver-out-kept}
 use Rattle.undamaged.proofs.withdraw_receiver.Statement.{statement}
@@ -34,7 +34,7 @@ returns c =
     let start = j .before .before in
     let s = start .args .store .now in
     let e =
-    ap (λ (v : Verdict). told s (allow v (receiverOut (start .args .slot) (bookOf s)))) (sym (c .before .why .given .1) ∙ j .judge-slot .ensures) in
+    ap (λ (v : Verdict). told s (allow v (leaveReceiver (start .args .slot) (bookOf s)))) (sym (c .before .why .given .1) ∙ j .judge-slot .ensures) in
     (e, receiver-out-kept s (start .pre) (start .args .slot) e)
 
 same-length : tie.Need-same-length
@@ -48,7 +48,7 @@ returns-2 c =
     let s = start .args .store .now in
     let e =
     c .before .before .leave-receiver .ensures
-    ∙ ap (λ (v : Verdict). told s (allow v (receiverOut (start .args .slot) (bookOf s)))) (sym (c .before .before .before .before .enum-told .given .1) ∙ j .judge-slot .ensures) in
+    ∙ ap (λ (v : Verdict). told s (allow v (leaveReceiver (start .args .slot) (bookOf s)))) (sym (c .before .before .before .before .enum-told .given .1) ∙ j .judge-slot .ensures) in
     (e, receiver-out-kept s (start .pre) (start .args .slot) e)
 
 pub withdraw-receiver-spec : {M : Type 1} → statement M

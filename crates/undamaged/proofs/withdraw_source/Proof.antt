@@ -6,7 +6,7 @@ use borrow.Author.Needs.{needs}
 use Rattle.road.specs.declared.Verdict.{Verdict}
 use Rattle.road.specs.declared.Verdict.the-variants.{Allowed}
 use Rattle.store.specs.Store.{bookOf}
-use Rattle.undamaged.specs.Calls.{told, allow, sourceOut, withdrawSource}
+use Rattle.undamaged.specs.Calls.{told, allow, leaveSource, withdrawSource}
 use Rattle.road.proofs.Judged.{slot-allowed}
 use Rattle.undamaged.proofs.Keeps.{source-out-kept}
 use Rattle.undamaged.proofs.withdraw_source.Statement.{statement}
@@ -34,7 +34,7 @@ returns c =
     let start = j .before .before in
     let s = start .args .store .now in
     let e =
-    ap (λ (v : Verdict). told s (allow v (sourceOut (start .args .slot) (bookOf s)))) (sym (c .before .why .given .1) ∙ j .judge-slot .ensures) in
+    ap (λ (v : Verdict). told s (allow v (leaveSource (start .args .slot) (bookOf s)))) (sym (c .before .why .given .1) ∙ j .judge-slot .ensures) in
     (e, source-out-kept s (start .pre .1) (start .args .slot) e)
 
 same-length : tie.Need-same-length
@@ -48,7 +48,7 @@ returns-2 c =
     let s = start .args .store .now in
     let e =
     c .before .before .leave-source .ensures
-    ∙ ap (λ (v : Verdict). told s (allow v (sourceOut (start .args .slot) (bookOf s)))) (sym (c .before .before .before .before .enum-told .given .1) ∙ j .judge-slot .ensures) in
+    ∙ ap (λ (v : Verdict). told s (allow v (leaveSource (start .args .slot) (bookOf s)))) (sym (c .before .before .before .before .enum-told .given .1) ∙ j .judge-slot .ensures) in
     (e, source-out-kept s (start .pre .1) (start .args .slot) e)
 
 pub withdraw-source-spec : {M : Type 1} → statement M

@@ -6,7 +6,7 @@ use native.Mathlib.Omega.{arith}
 use denote.Ref.{now}
 use Rattle.layout.specs.Layout.{Within}
 use Rattle.road.specs.declared.Receiver.{Receiver}
-use Rattle.codec.specs.declared.Call.the-variants.{PlaceReceiver}
+use Rattle.codec.specs.declared.Request.the-variants.{PlaceReceiver}
 use Rattle.codec.specs.Kinds.{at, kindAt, layoutOf}
 use Rattle.codec.specs.Inner.{firstOf}
 use Rattle.codec.proofs.Laws.{slot-fits, ask-else}

@@ -3,7 +3,7 @@
 use Prim.Native.Nat.{ℕ}
 use mathlib.Core.Path.{sym, ap, _∙_}
 use mathlib.Core.List.{List, _∷_}
-use Rattle.codec.specs.declared.Call.{Call}
+use Rattle.codec.specs.declared.Request.{Request}
 use Rattle.codec.specs.Kinds.{fieldsOf}
 use Rattle.codec.specs.Inner.{filled}
 use borrow.Author.Needs.{needs}
@@ -70,27 +70,27 @@ join-requires-5 c κs = search needs
 returns : tie.Need-returns
 returns c =
     let a = c .before .before .before .before .before .before .before .before .args in
-    c .join .ensures ∙ ap (λ (x : Call). filled (fieldsOf x (a .source))) (sym (c .before .before .before .before .before .before .call .given .1))
+    c .join .ensures ∙ ap (λ (x : Request). filled (fieldsOf x (a .source))) (sym (c .before .before .before .before .before .before .call .given .1))
 
 returns-2 : tie.Need-returns-2
 returns-2 c =
     let a = c .before .before .before .before .before .args in
-    c .join2 .ensures ∙ ap (λ (x : Call). filled (fieldsOf x (a .source))) (sym (c .before .before .before .call2 .given .1))
+    c .join2 .ensures ∙ ap (λ (x : Request). filled (fieldsOf x (a .source))) (sym (c .before .before .before .call2 .given .1))
 
 returns-3 : tie.Need-returns-3
 returns-3 c =
     let a = c .before .before .before .before .before .before .args in
-    c .join3 .ensures ∙ ap (λ (l : List ℕ). filled (3 ∷ c .before .before .before .before .call3 .given .0 .0 ∷ l)) (c .before .before .source-fields .ensures) ∙ ap (λ (x : Call). filled (fieldsOf x (a .source))) (sym (c .before .before .before .before .call3 .given .1))
+    c .join3 .ensures ∙ ap (λ (l : List ℕ). filled (3 ∷ c .before .before .before .before .call3 .given .0 .0 ∷ l)) (c .before .before .source-fields .ensures) ∙ ap (λ (x : Request). filled (fieldsOf x (a .source))) (sym (c .before .before .before .before .call3 .given .1))
 
 returns-4 : tie.Need-returns-4
 returns-4 c =
     let a = c .before .before .before .before .before .args in
-    c .join4 .ensures ∙ ap (λ (x : Call). filled (fieldsOf x (a .source))) (sym (c .before .before .before .call4 .given .1))
+    c .join4 .ensures ∙ ap (λ (x : Request). filled (fieldsOf x (a .source))) (sym (c .before .before .before .call4 .given .1))
 
 returns-5 : tie.Need-returns-5
 returns-5 c =
     let a = c .before .before .before .before .before .args in
-    c .join5 .ensures ∙ ap (λ (x : Call). filled (fieldsOf x (a .source))) (sym (c .before .before .before .call5 .given .1))
+    c .join5 .ensures ∙ ap (λ (x : Request). filled (fieldsOf x (a .source))) (sym (c .before .before .before .call5 .given .1))
 
 pub fields-of-spec : {M : Type 1} → statement M
 fields-of-spec =

@@ -2,7 +2,7 @@
 -- Assumes nothing.
 use mathlib.Core.Path.{sym, ap, _∙_}
 use Rattle.road.specs.Judge.{slotVerdict, lastSource, lastReceiver}
-use Rattle.codec.specs.declared.Call.{Call}
+use Rattle.codec.specs.declared.Request.{Request}
 use Rattle.codec.specs.Kinds.{verdictOf}
 use borrow.Author.Needs.{needs}
 use Rattle.codec.proofs.kinds.verdict.Statement.{statement}
@@ -48,28 +48,28 @@ returns : tie.Need-returns
 unfolding verdictOf
 returns c =
     c .judge-slot .ensures ∙ ap (slotVerdict lastReceiver (c .before .before .before .call .given .0 .0)) (c .before .judge-receiver .ensures)
-    ∙ ap (λ (x : Call). verdictOf x (c .before .before .before .before .before .args .source)) (sym (c .before .before .before .call .given .1))
+    ∙ ap (λ (x : Request). verdictOf x (c .before .before .before .before .before .args .source)) (sym (c .before .before .before .call .given .1))
 
 returns-2 : tie.Need-returns-2
 unfolding verdictOf
 returns-2 c =
-    c .judge-slot2 .ensures ∙ ap (λ (x : Call). verdictOf x (c .before .before .before .before .args .source)) (sym (c .before .before .call2 .given .1))
+    c .judge-slot2 .ensures ∙ ap (λ (x : Request). verdictOf x (c .before .before .before .before .args .source)) (sym (c .before .before .call2 .given .1))
 
 returns-3 : tie.Need-returns-3
 unfolding verdictOf
 returns-3 c =
     c .judge-slot3 .ensures ∙ ap (slotVerdict lastSource (c .before .before .before .call3 .given .0 .0)) (c .before .judge-source .ensures)
-    ∙ ap (λ (x : Call). verdictOf x (c .before .before .before .before .before .args .source)) (sym (c .before .before .before .call3 .given .1))
+    ∙ ap (λ (x : Request). verdictOf x (c .before .before .before .before .before .args .source)) (sym (c .before .before .before .call3 .given .1))
 
 returns-4 : tie.Need-returns-4
 unfolding verdictOf
 returns-4 c =
-    c .judge-slot4 .ensures ∙ ap (λ (x : Call). verdictOf x (c .before .before .before .before .args .source)) (sym (c .before .before .call4 .given .1))
+    c .judge-slot4 .ensures ∙ ap (λ (x : Request). verdictOf x (c .before .before .before .before .args .source)) (sym (c .before .before .call4 .given .1))
 
 returns-5 : tie.Need-returns-5
 unfolding verdictOf
 returns-5 c =
-    c .judge-slot5 .ensures ∙ ap (λ (x : Call). verdictOf x (c .before .before .before .before .args .source)) (sym (c .before .before .call5 .given .1))
+    c .judge-slot5 .ensures ∙ ap (λ (x : Request). verdictOf x (c .before .before .before .before .args .source)) (sym (c .before .before .call5 .given .1))
 
 pub verdict-spec : {M : Type 1} → statement M
 verdict-spec =

@@ -15,11 +15,11 @@ enum-told c = search needs
 enum-known-p : tie.Need-enum-known-p
 enum-known-p c = search needs
 
-holds-requires : tie.Need-holds-requires
-holds-requires c κs = search needs
+covers-requires : tie.Need-covers-requires
+covers-requires c κs = search needs
 
 minus-requires : tie.Need-minus-requires
-minus-requires c κs = sym (c .before .holds .ensures) ∙ c .if1 .taken
+minus-requires c κs = sym (c .before .covers .ensures) ∙ c .if1 .taken
 
 returns : tie.Need-returns
 returns c =
@@ -27,7 +27,7 @@ returns c =
     let a = r .before .before .before .before .args .sums in
     let h = r .before .before .p .given in
     ap Moved (c .minus .ensures)
-    ∙ sym (ap (λ (q : Pair). loweredBy q a) (h .1) ∙ ap (λ (x : Bool). cond x (Moved (minusOf a (h .0 .0))) Late) (sym (r .holds .ensures) ∙ c .before .if1 .taken))
+    ∙ sym (ap (λ (q : Pair). loweredBy q a) (h .1) ∙ ap (λ (x : Bool). cond x (Moved (minusOf a (h .0 .0))) Late) (sym (r .covers .ensures) ∙ c .before .if1 .taken))
 
 returns-2 : tie.Need-returns-2
 returns-2 c = search needs
@@ -37,9 +37,9 @@ returns-3 c =
     let r = c .before in
     let a = r .before .before .before .before .args .sums in
     let h = r .before .before .p .given in
-    sym (ap (λ (q : Pair). loweredBy q a) (h .1) ∙ ap (λ (x : Bool). cond x (Moved (minusOf a (h .0 .0))) Late) (sym (r .holds .ensures) ∙ c .if1 .left))
+    sym (ap (λ (q : Pair). loweredBy q a) (h .1) ∙ ap (λ (x : Bool). cond x (Moved (minusOf a (h .0 .0))) Late) (sym (r .covers .ensures) ∙ c .if1 .left))
 
 pub lowered-spec : {M : Type 1} → statement M
 lowered-spec =
     tie.close
-    (tie.spec enum-told enum-known-p holds-requires minus-requires returns returns-2 returns-3)
+    (tie.spec enum-told enum-known-p covers-requires minus-requires returns returns-2 returns-3)

@@ -9,14 +9,14 @@ use borrow.Author.Tests.{not-true, not-false}
 use lib.ListN.{set}
 use Rattle.store.specs.declared.Held.{Held}
 use Rattle.store.specs.declared.Seat.{Seat}
-use Rattle.store.specs.Store.{book, bookOf, bytesOf}
+use Rattle.store.specs.Store.{book, bookOf, bookBytes}
 use Rattle.store.proofs.Laws.{undamaged, bytes-book, set-held}
 use Rattle.ledger.proofs.round.settle.Statement.{statement}
 use Rattle.ledger.proofs.round.settle.Tie as tie
 
 -- a store with the receivers of one seat or the other
 either : List ℕ → ℕ → Held → Bool → List ℕ
-either s j x b = bytesOf (book (bookOf s .sources) (cond b (set (bookOf s .receivers) j (some x)) (bookOf s .receivers)))
+either s j x b = bookBytes (book (bookOf s .sources) (cond b (set (bookOf s .receivers) j (some x)) (bookOf s .receivers)))
 
 put-held-requires : tie.Need-put-held-requires
 put-held-requires c κs =

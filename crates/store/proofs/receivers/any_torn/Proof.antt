@@ -7,7 +7,7 @@ use native.Mathlib.Omega.{arith}
 use borrow.Author.Needs.{needs}
 use denote.Ref.{now}
 use lib.ListN.{drop}
-use Rattle.store.specs.Slots.{layoutOf, slotBy, slotOf, isTorn}
+use Rattle.store.specs.Slots.{partyLayout, slotBy, slotOf, isTorn}
 use Rattle.store.specs.Store.{receiverSlots, split, heldParty, receiverAt}
 use Rattle.store.proofs.Slots.{Sought, fields-fit, seek-start, seek-hit, seek-on, seek-end}
 use Rattle.store.proofs.Laws.{seat-place}
@@ -30,7 +30,7 @@ torn-requires : tie.Need-torn-requires Inv-loop μ-loop
 torn-requires c κs =
     let l = c .before .before .before in
     let z = l .before .before in
-    fields-fit (layoutOf heldParty) (receiverAt (l .loop .j) (now (z .args .store))) _ (c .before .numbers .ensures)
+    fields-fit (partyLayout heldParty) (receiverAt (l .loop .j) (now (z .args .store))) _ (c .before .numbers .ensures)
 
 returns : tie.Need-returns Inv-loop μ-loop
 unfolding slotOf receiverSlots

@@ -6,7 +6,7 @@ use native.Mathlib.Omega.{arith}
 use denote.Ref.{now}
 use Prim.Native.Nat.{ℕ}
 use Rattle.layout.specs.Over.{over}
-use Rattle.store.specs.Slots.{layoutOf, slotBytes}
+use Rattle.store.specs.Slots.{partyLayout, slotBytes}
 use Rattle.store.specs.Store.{storeLength, split, heldParty}
 use mathlib.Core.Path.{refl, ap, _∙_}
 use Rattle.layout.proofs.Laws.{packed-zeros}
@@ -29,7 +29,7 @@ slice-aggregate-put-2 c = search needs
 
 put-requires : tie.Need-put-requires
 unfolding storeLength
-put-requires c κs = (refl, omega arith, zeros-within (layoutOf heldParty))
+put-requires c κs = (refl, omega arith, zeros-within (partyLayout heldParty))
 
 same-length : tie.Need-same-length
 same-length c = search needs
@@ -38,7 +38,7 @@ returns : tie.Need-returns
 unfolding slotBytes split
 returns c =
     let z = c .before .before .before .before .before .before .before in
-    c .before .before .put .ensures ∙ ap (λ (t : List ℕ). over (split + z .args .j * 33) t (now (z .args .store))) (packed-zeros (layoutOf heldParty))
+    c .before .before .put .ensures ∙ ap (λ (t : List ℕ). over (split + z .args .j * 33) t (now (z .args .store))) (packed-zeros (partyLayout heldParty))
 
 pub drop-held-spec : {M : Type 1} → statement M
 drop-held-spec =

@@ -8,7 +8,7 @@ use denote.Ref.{now}
 use Prim.Native.Nat.{ℕ}
 use Rattle.layout.specs.Layout.{Within, packed}
 use Rattle.layout.specs.Over.{over}
-use Rattle.store.specs.Slots.{layoutOf, slotBytes}
+use Rattle.store.specs.Slots.{partyLayout, slotBytes}
 use Rattle.store.specs.Store.{storeLength, split, heldParty}
 use Rattle.store.proofs.Parties.{held-fits}
 use borrow.Author.Needs.{needs}
@@ -34,7 +34,7 @@ put-requires : tie.Need-put-requires
 unfolding storeLength
 put-requires c κs =
     let z = c .before .before .before .before .before in
-    (refl, omega arith, subst (Within (layoutOf heldParty)) (sym (c .before .before .before .numbers-of .ensures)) (held-fits (z .args .h) (z .pre .2)))
+    (refl, omega arith, subst (Within (partyLayout heldParty)) (sym (c .before .before .before .numbers-of .ensures)) (held-fits (z .args .h) (z .pre .2)))
 
 same-length : tie.Need-same-length
 same-length c = search needs
@@ -44,7 +44,7 @@ unfolding slotBytes split
 returns c =
     let z = c .before .before .before .before .before .before .before .before in
     c .before .before .put .ensures
-    ∙ ap (λ (v : List ℕ). over (split + z .args .j * 33) (packed (layoutOf heldParty) v) (now (z .args .store))) (c .before .before .before .before .before .before .numbers-of .ensures)
+    ∙ ap (λ (v : List ℕ). over (split + z .args .j * 33) (packed (partyLayout heldParty) v) (now (z .args .store))) (c .before .before .before .before .before .before .numbers-of .ensures)
 
 pub put-held-spec : {M : Type 1} → statement M
 put-held-spec =

@@ -6,7 +6,7 @@ use mathlib.Core.List.{List}
 use native.Mathlib.Omega.{arith}
 use borrow.Author.Needs.{needs}
 use denote.Ref.{now}
-use Rattle.store.specs.Slots.{layoutOf, slotBy, slotOf, isTorn}
+use Rattle.store.specs.Slots.{partyLayout, slotBy, slotOf, isTorn}
 use Rattle.store.specs.Store.{sourceSlots, sourceParty, sourceAt}
 use Rattle.store.proofs.Slots.{Sought, fields-fit, seek-start, seek-hit, seek-on, seek-end}
 use Rattle.store.proofs.sources.any_torn.Statement.{statement}
@@ -28,7 +28,7 @@ torn-requires : tie.Need-torn-requires Inv-loop μ-loop
 torn-requires c κs =
     let l = c .before .before .before in
     let z = l .before .before in
-    (z .pre .0, fields-fit (layoutOf sourceParty) (sourceAt (l .loop .i) (now (z .args .store))) _ (c .before .numbers .ensures))
+    (z .pre .0, fields-fit (partyLayout sourceParty) (sourceAt (l .loop .i) (now (z .args .store))) _ (c .before .numbers .ensures))
 
 returns : tie.Need-returns Inv-loop μ-loop
 unfolding slotOf sourceSlots

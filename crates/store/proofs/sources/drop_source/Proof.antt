@@ -6,7 +6,7 @@ use native.Mathlib.Omega.{arith}
 use denote.Ref.{now}
 use Prim.Native.Nat.{ℕ}
 use Rattle.layout.specs.Over.{over}
-use Rattle.store.specs.Slots.{layoutOf, slotBytes}
+use Rattle.store.specs.Slots.{partyLayout, slotBytes}
 use Rattle.store.specs.Store.{storeLength, sourceParty}
 use mathlib.Core.Path.{refl, ap, _∙_}
 use Rattle.layout.proofs.Laws.{packed-zeros}
@@ -26,7 +26,7 @@ slice-aggregate-put-2 c = search needs
 
 put-requires : tie.Need-put-requires
 unfolding storeLength
-put-requires c κs = (refl, omega arith, zeros-within (layoutOf sourceParty))
+put-requires c κs = (refl, omega arith, zeros-within (partyLayout sourceParty))
 
 same-length : tie.Need-same-length
 same-length c = search needs
@@ -35,7 +35,7 @@ returns : tie.Need-returns
 unfolding slotBytes
 returns c =
     let z = c .before .before .before .before .before .before .before in
-    c .before .before .put .ensures ∙ ap (λ (t : List ℕ). over (z .args .i * 36) t (now (z .args .store))) (packed-zeros (layoutOf sourceParty))
+    c .before .before .put .ensures ∙ ap (λ (t : List ℕ). over (z .args .i * 36) t (now (z .args .store))) (packed-zeros (partyLayout sourceParty))
 
 pub drop-source-spec : {M : Type 1} → statement M
 drop-source-spec =

@@ -11,7 +11,7 @@ use lib.Seq.{length-take-le}
 use Rattle.layout.specs.Layout.{bits, Bytes}
 use Rattle.layout.proofs.Numbers.{bytes-take, bytes-drop}
 use Rattle.layout.proofs.Laws.{field-bits}
-use Rattle.store.specs.Slots.{layoutOf}
+use Rattle.store.specs.Slots.{partyLayout}
 use Rattle.store.specs.Store.{storeLength, sourceParty, sourceAt, laneOf}
 use borrow.Author.Needs.{needs}
 use Rattle.store.proofs.sources.marked.Statement.{statement}
@@ -23,7 +23,7 @@ unfolding laneOf storeLength
 mark-is s i n b h l e =
     let k : length (sourceAt i s) ≡ 36 = length-take-le 36 (drop (i * 36) s) (omega (arith, length-drop (i * 36) s)) in
     ap (λ (m : ℕ). eqb m 1)
-    (e ∙ sym (field-bits (layoutOf sourceParty) (sourceAt i s) 0 refl (omega (arith, k)) (bytes-take 36 (drop (i * 36) s) (bytes-drop (i * 36) s b)) (omega arith)))
+    (e ∙ sym (field-bits (partyLayout sourceParty) (sourceAt i s) 0 refl (omega (arith, k)) (bytes-take 36 (drop (i * 36) s) (bytes-drop (i * 36) s b)) (omega arith)))
 
 mul-at : tie.Need-mul-at
 mul-at c = search needs

@@ -8,7 +8,7 @@ use denote.Ref.{now}
 use Prim.Native.Nat.{ℕ}
 use Rattle.layout.specs.Layout.{Within, packed}
 use Rattle.layout.specs.Over.{over}
-use Rattle.store.specs.Slots.{layoutOf, slotBytes}
+use Rattle.store.specs.Slots.{partyLayout, slotBytes}
 use Rattle.store.specs.Store.{storeLength, sourceParty}
 use Rattle.store.proofs.Parties.{source-fits}
 use borrow.Author.Needs.{needs}
@@ -31,7 +31,7 @@ put-requires : tie.Need-put-requires
 unfolding storeLength
 put-requires c κs =
     let z = c .before .before .before .before .before in
-    (refl, omega arith, subst (Within (layoutOf sourceParty)) (sym (c .before .before .before .numbers-of .ensures)) (source-fits (z .args .s) (z .pre .2)))
+    (refl, omega arith, subst (Within (partyLayout sourceParty)) (sym (c .before .before .before .numbers-of .ensures)) (source-fits (z .args .s) (z .pre .2)))
 
 same-length : tie.Need-same-length
 same-length c = search needs
@@ -41,7 +41,7 @@ unfolding slotBytes
 returns c =
     let z = c .before .before .before .before .before .before .before .before in
     c .before .before .put .ensures
-    ∙ ap (λ (v : List ℕ). over (z .args .i * 36) (packed (layoutOf sourceParty) v) (now (z .args .store))) (c .before .before .before .before .before .before .numbers-of .ensures)
+    ∙ ap (λ (v : List ℕ). over (z .args .i * 36) (packed (partyLayout sourceParty) v) (now (z .args .store))) (c .before .before .before .before .before .before .numbers-of .ensures)
 
 pub put-source-spec : {M : Type 1} → statement M
 put-source-spec =
