@@ -16,7 +16,7 @@ ghost use mathlib.Core.Path.{_≡_};
 ghost use Prim.Native.Nat.{_≤_};
 ghost use Rattle.level.specs.Table.{table};
 ghost use Rattle.road.specs.declared.Shares.{Shares};
-ghost use Rattle.road.specs.declared.Pair.the-variants.{Loudness};
+ghost use Rattle.road.specs.declared.Pair.the-variants.{Heard};
 ghost use Rattle.road.specs.Reach.{pairOf};
 ghost use Rattle.road.specs.Figures.{home};
 
@@ -92,10 +92,10 @@ fn barred(bar: Bar) -> Refusal {
 
 // A pair as an outcome.
 fn told(p: Pair) -> Outcome
-    ensures { λ o. ⌜ ((h : Shares) → o ≡ Outcome.Told h → p ≡ Loudness h) ⌝ }
+    ensures { λ o. ⌜ ((h : Shares) → o ≡ Outcome.Told h → p ≡ Heard h) ⌝ }
 {
     match p {
-        Pair::Loudness(shares) => Outcome::Told(shares),
+        Pair::Heard(shares) => Outcome::Told(shares),
         Pair::Barred(bar) => Outcome::Refused(barred(bar)),
     }
 }
@@ -103,7 +103,7 @@ fn told(p: Pair) -> Outcome
 // A road at the point: its fields are judged, and then the pair.
 fn meet(steps: &[u32; 1000], s: Source) -> Outcome
     requires { ⌜ now steps ≡ table ⌝ }
-    ensures { λ o. ⌜ ((h : Shares) → o ≡ Outcome.Told h → pairOf s home ≡ Loudness h) ⌝ }
+    ensures { λ o. ⌜ ((h : Shares) → o ≡ Outcome.Told h → pairOf s home ≡ Heard h) ⌝ }
 {
     match judge::judge_source(steps, s) {
         Verdict::Refused(why) => Outcome::Refused(why),
