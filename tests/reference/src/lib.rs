@@ -4,6 +4,7 @@
 pub mod book;
 pub mod chance;
 pub mod compare;
+pub mod fields;
 pub mod fixed;
 mod inconsistent;
 pub mod jobs;

@@ -25,6 +25,10 @@ pub const HEAD_NAMES: [&str; HEAD] = [
     "tag", "number", "place", "place", "L_DEN", "L_DEN", "L_Night", "L_Night", "extent", "extent",
 ];
 
+/// The longest stored state and the longest record that the probing program takes.
+pub const LONGEST_IMAGE: usize = 32_768;
+pub const LONGEST_PIECE: usize = 64;
+
 /// How a quiet index is told.
 const QUIET: u16 = u16::MAX;
 
