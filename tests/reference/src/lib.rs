@@ -7,6 +7,7 @@ pub mod compare;
 pub mod fields;
 pub mod fixed;
 mod inconsistent;
+pub mod inputs;
 pub mod jobs;
 pub mod level;
 pub mod limits;
