@@ -37,13 +37,14 @@ pub const fn widest(bits: u32) -> i64 {
 pub const MINUS: i64 = 128;
 pub const STEEPEST: i64 = 120;
 
-/// The greatest value of a coordinate.
-pub const FARTHEST: i64 = widest(24);
+/// The bits of a coordinate, all of whose values are allowed, and the greatest of them.
+const MAP: u32 = 24;
+pub const FARTHEST: i64 = widest(MAP);
 
 pub const SOURCE_SLOT: Field = field(1, "slot", 9, &[(0, SOURCES as i64 - 1)]);
 pub const RECEIVER_SLOT: Field = field(1, "slot", 6, &[(0, RECEIVERS as i64 - 1)]);
-pub const X: Field = field(2, "x", 24, &[(0, FARTHEST)]);
-pub const Y: Field = field(3, "y", 24, &[(0, FARTHEST)]);
+pub const X: Field = field(2, "x", MAP, &[(0, FARTHEST)]);
+pub const Y: Field = field(3, "y", MAP, &[(0, FARTHEST)]);
 pub const HEIGHT: Field = field(4, "height", 9, &[(380, 420)]);
 pub const LENGTH: Field = field(4, "length", 17, &[(1, 100_000)]);
 pub const LANES: Field = field(5, "several lanes", 1, &[(0, 1)]);

@@ -72,7 +72,8 @@ fn steps_around(limit: i64) -> Vec<i64> {
     let steps = |sign: i64| {
         let mut chance = Chance::new(0);
         let there = move |step: &i64| way_of_square(&mut chance, limit + step).is_some();
-        (1..).map(move |step| sign * step).filter(there).take(2)
+        let steps = (1..100).map(move |step| sign * step);
+        steps.filter(there).take(2)
     };
     let own = way_of_square(&mut Chance::new(0), limit).map(|_| 0);
     steps(-1).chain(own).chain(steps(1)).collect()
@@ -149,7 +150,7 @@ impl Way {
 /// A road as loud as can be, but for its traffic and length.
 pub fn loud_road(chance: &mut Chance) -> Source {
     Source {
-        length: chance.between(150, 250),
+        length: chance.between(150, HALF_NEAREST),
         several_lanes: chance.between(0, 1),
         car_speed: chance.between(100, CAR_SPEED.most()),
         truck_speed: chance.between(60, TRUCK_SPEED.most()),

@@ -89,8 +89,15 @@ impl Missed {
         }
     }
 
-    fn none(&self, where_from: &str) {
-        assert!(self.0.is_empty(), "{where_from} do not meet {:?}", self.0);
+    /// Fails if any is left, and names it.
+    fn none(&self, cases: &str) {
+        let named = |&(kind, number, value, good): &Edge| {
+            let field = fields_of(kind).unwrap()[usize::from(number) - 1];
+            let side = if good { "allowed" } else { "refused" };
+            format!("{} {value} of kind {kind}, {side}", field.name)
+        };
+        let missed: Vec<String> = self.0.iter().map(named).collect();
+        assert!(missed.is_empty(), "{cases} do not meet {missed:?}");
     }
 }
 

@@ -1,4 +1,4 @@
-// Prints the input that the program job or the program probe is tried on, the file stdin of its crate:
+// Prints the input that the program job or probe is tried on, the file stdin of its crate:
 // make-input job >crates/job/stdin, make-input probe >crates/probe/stdin.
 
 use reference::inputs::{job_input, probe_input};
