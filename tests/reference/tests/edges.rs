@@ -33,26 +33,43 @@ type Edge = (u8, u16, i64, bool);
 /// The edges that were not met yet.
 struct Missed(BTreeSet<Edge>);
 
+/// The edges of a field of so many bits, from the table alone: the ends of what is allowed, which
+/// are to be accepted, and one step past them and the most that the bits hold, to be refused.
+fn edges_of(field: &Field, bits: u32) -> Vec<(i64, bool)> {
+    let most = widest(bits);
+    let mut edges = vec![(most, field.allows(most))];
+    for &(first, last) in field.allowed {
+        edges.extend([
+            (first, true),
+            (last, true),
+            (first - 1, false),
+            (last + 1, false),
+        ]);
+    }
+    edges.retain(|&(value, _)| (0..=most).contains(&value));
+    edges
+}
+
+/// The sizes of walls where there are none: 0 is to be accepted and 1 to be refused.
+fn edges_without_walls() -> [Edge; 4] {
+    let [height, spacing] = [WALL_HEIGHT, WALL_SPACING].map(|size| size.number);
+    let edge = |number, value| (3, number, value, value == 0);
+    [
+        edge(height, 0),
+        edge(height, 1),
+        edge(spacing, 0),
+        edge(spacing, 1),
+    ]
+}
+
 impl Missed {
     /// All edges of records of these kinds, where every field has so many bits.
     fn all(kinds: &[u8], bits: impl Fn(&Field) -> u32) -> Missed {
-        let mut edges = BTreeSet::new();
+        let mut edges = BTreeSet::from(edges_without_walls());
         for &kind in kinds {
             for field in fields_of(kind).unwrap() {
-                let inner = field.inner_edges().into_iter().map(|value| (value, true));
-                let outer = field.outer_edges(bits(field)).into_iter();
-                let widest = widest(bits(field));
-                let outer = outer.chain([widest].into_iter().filter(|&most| !field.allows(most)));
-                let outer = outer.map(|value| (value, false));
-                edges.extend(
-                    inner
-                        .chain(outer)
-                        .map(|(v, good)| (kind, field.number, v, good)),
-                );
-            }
-            if kind == 3 {
-                let without = |size: Field| [(3, size.number, 0, true), (3, size.number, 1, false)];
-                edges.extend([WALL_HEIGHT, WALL_SPACING].into_iter().flat_map(without));
+                let of_field = edges_of(field, bits(field)).into_iter();
+                edges.extend(of_field.map(|(value, good)| (kind, field.number, value, good)));
             }
         }
         Missed(edges)
