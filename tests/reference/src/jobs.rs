@@ -6,14 +6,14 @@ use crate::fields::{
     widest, FARTHEST, HEIGHT, LENGTH, RECEIVERS, RECEIVER_FIELDS, RECEIVER_SLOT, SOURCES,
     SOURCE_FIELDS, SOURCE_SLOT,
 };
-use crate::fixed::example_receiver;
+use crate::fixed::{example_receiver, one_of_each};
 use crate::limits::{
     loud_road, trial_values, tuned, way_of_square, Way, APART, FAR_STEPS, HALF_NEAREST, HALVES,
     NEAR_STEPS, PAPER_LENGTHS, PAPER_WAYS,
 };
 use crate::pieces::BUFFER;
 use crate::record::{
-    kind_byte, kind_in, length_of, listed_kinds, spare_bits, unlisted_kinds, Record,
+    fields_of, kind_byte, kind_in, length_of, listed_kinds, spare_bits, unlisted_kinds, Record,
 };
 use crate::road::{Receiver, Source, FARTHEST_SQUARE, LOUDEST, NEAREST_SQUARE};
 use crate::town::{road, traffic, Draft, Town, WIDE};
@@ -298,7 +298,18 @@ fn fields(chance: &mut Chance) -> Vec<u8> {
             try_receiver(&mut draft, Receiver::of_fields(values));
         }
     }
+    try_slots(&mut draft, chance);
     draft.bytes
+}
+
+/// Puts one record of every kind on slots that may not be allowed.
+fn try_slots(draft: &mut Draft, chance: &mut Chance) {
+    for record in one_of_each() {
+        let slot = &fields_of(record.kind()).expect("every record has a listed kind")[0];
+        for value in trial_values(chance, slot, slot.bits) {
+            draft.put(record.with(0, value));
+        }
+    }
 }
 
 /// Adds a source that may not be allowed, asks and takes it away.

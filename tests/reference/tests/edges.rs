@@ -75,6 +75,13 @@ impl Missed {
         Missed(edges)
     }
 
+    /// All edges of stored fields; the number of a slot is not stored.
+    fn stored() -> Missed {
+        let mut edges = Missed::all(&PLACINGS, Field::stored_bits).0;
+        edges.retain(|&(_, number, ..)| number != 1);
+        Missed(edges)
+    }
+
     /// Takes off what a record meets.
     fn meet(&mut self, record: &Record) {
         let judged = record.judge();
@@ -143,15 +150,6 @@ fn accounts_in(image: &[u8]) -> impl Iterator<Item = (Record, Vec<u64>)> + '_ {
     })
 }
 
-/// Bits of a field in the store; a slot is not kept there.
-fn stored_bits(field: &Field) -> u32 {
-    if field.number == 1 {
-        field.bits
-    } else {
-        field.stored_bits()
-    }
-}
-
 #[test]
 fn jobs_meet_every_edge_of_every_field() {
     let mut missed = Missed::all(&listed_kinds(), |field| field.bits);
@@ -177,8 +175,7 @@ fn writings_meet_every_edge_of_every_field() {
 
 #[test]
 fn fixed_probes_meet_every_edge_of_every_field() {
-    let mut stored = Missed::all(&PLACINGS, stored_bits);
-    stored.0.retain(|&(_, number, ..)| number != 1);
+    let mut stored = Missed::stored();
     let mut records = Missed::all(&listed_kinds(), |field| field.bits);
     for frame in fixed_frames() {
         stored.meet_image(&frame.image);
@@ -194,7 +191,7 @@ fn stored_states_by_chance_meet_both_sides_of_every_field() {
         let side = |&(kind, number, _, good): &Edge| (kind, number, good);
         edges.0.iter().map(side).collect()
     };
-    let all = Missed::all(&PLACINGS, stored_bits);
+    let all = Missed::stored();
     let mut missed = Missed(all.0.clone());
     SEEDS.for_each(|seed| missed.meet_image(&frame(seed).image));
     let met = Missed(&all.0 - &missed.0);
