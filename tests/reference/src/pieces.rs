@@ -55,7 +55,7 @@ pub fn delivery(seed: u64) -> Delivery {
         _ => job(seed),
     };
     let size = SIZES[(seed % SIZES.len() as u64) as usize];
-    if seed % 3 == 0 {
+    if chance.one_in(3) {
         job.truncate(chance.between(0, job.len() as i64) as usize);
     }
     let mixed = chance.one_in(4);
