@@ -134,9 +134,11 @@ pub(crate) fn surfaced_sources() -> Vec<Source> {
 }
 
 /// A job that tries one record after the other beside the receiver of the worked case.
-/// What it places it asks about and takes away again.
+/// What it places it asks about and takes away again; that receiver is placed anew where it may
+/// have gone.
 fn parade(records: &[Record]) -> Vec<u8> {
-    let mut job = vec![Record::PlaceReceiver(5, example_receiver())];
+    let stays = Record::PlaceReceiver(5, example_receiver());
+    let mut job = vec![stays];
     for &record in records {
         job.push(record);
         match record {
@@ -144,8 +146,9 @@ fn parade(records: &[Record]) -> Vec<u8> {
                 job.extend([Record::Ask(5), Record::WithdrawSource(slot)]);
             }
             Record::PlaceReceiver(slot, _) => {
-                job.extend([Record::Ask(slot), Record::WithdrawReceiver(slot)]);
+                job.extend([Record::Ask(slot), Record::WithdrawReceiver(slot), stays]);
             }
+            Record::WithdrawReceiver(_) => job.push(stays),
             _ => {}
         }
     }

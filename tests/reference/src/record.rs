@@ -126,25 +126,29 @@ impl Record {
 
     /// The same record with another value of one field.
     pub fn with(&self, at: usize, value: i64) -> Record {
-        let mut values = [0; SOURCE_FIELDS.len()];
-        for (mine, old) in values.iter_mut().zip(self.values()) {
-            *mine = old;
-        }
+        let mut values = self.values();
         values[at] = value;
-        Record::of_values(self.kind(), &values)
+        let mut values = values.into_iter();
+        Record::of(self.kind(), |_| {
+            values.next().expect("every field has a value")
+        })
     }
 
-    /// The record of a kind with these values of its fields, slot first, and an ask where the
-    /// kind is not listed. Values past the last field do not count.
-    pub fn of_values(kind: u8, values: &[i64; SOURCE_FIELDS.len()]) -> Record {
-        let &[slot, a, b, c, ..] = values;
-        let [_, rest @ ..] = *values;
+    /// The record of a kind, an ask where the kind is not listed, from the values that are given
+    /// for its fields one after the other, slot first.
+    pub fn of(kind: u8, mut value: impl FnMut(&Field) -> i64) -> Record {
         match kind {
-            1 => Record::PlaceReceiver(slot, Receiver::of_fields([a, b, c])),
-            2 => Record::WithdrawReceiver(slot),
-            3 => Record::PlaceSource(slot, Source::of_fields(rest)),
-            4 => Record::WithdrawSource(slot),
-            _ => Record::Ask(slot),
+            1 => {
+                let slot = value(&RECEIVER_SLOT);
+                Record::PlaceReceiver(slot, Receiver::of_fields(rest(&RECEIVER_FIELDS, value)))
+            }
+            2 => Record::WithdrawReceiver(value(&RECEIVER_SLOT)),
+            3 => {
+                let slot = value(&SOURCE_SLOT);
+                Record::PlaceSource(slot, Source::of_fields(rest(&SOURCE_FIELDS, value)))
+            }
+            4 => Record::WithdrawSource(value(&SOURCE_SLOT)),
+            _ => Record::Ask(value(&RECEIVER_SLOT)),
         }
     }
 
@@ -158,6 +162,11 @@ impl Record {
         }
         packer.finish()
     }
+}
+
+/// The values of the fields after the slot.
+fn rest<const N: usize>(fields: &[Field], mut value: impl FnMut(&Field) -> i64) -> [i64; N] {
+    std::array::from_fn(|at| value(&fields[at + 1]))
 }
 
 /// Puts fields of any width end to end.
@@ -220,22 +229,18 @@ pub fn extent(bytes: &[u8]) -> usize {
 /// the record and its length, or refusal 2 to 4.
 pub fn take(bytes: &[u8]) -> Result<(Record, usize), Refusal> {
     let kind = kind_in(*bytes.first().ok_or(refusal(2))?);
-    let fields = fields_of(kind).ok_or(refusal(3))?;
-    let length = whole_bytes(fields);
+    let length = length_of(kind).ok_or(refusal(3))?;
     let mut taker = Taker {
         bytes: bytes.get(..length).ok_or(refusal(2))?.iter(),
         held: 0,
         bits: 0,
     };
     taker.take(KIND_BITS);
-    let mut values = [0; SOURCE_FIELDS.len()];
-    for (value, field) in values.iter_mut().zip(fields) {
-        *value = taker.take(field.bits);
-    }
+    let record = Record::of(kind, |field| taker.take(field.bits));
     if taker.leftover() {
         return Err(refusal(4));
     }
-    Ok((Record::of_values(kind, &values), length))
+    Ok((record, length))
 }
 
 /// Reads the record at the front of the bytes: the record and its length, or refusal 2 to 7.

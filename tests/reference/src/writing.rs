@@ -67,12 +67,8 @@ impl Writing {
         let kind = front(&mut rest, 1)?[0];
         let mut left = front(&mut rest, SLOT + FIELDS)?;
         *input = rest;
-        let mut values = [0; SOURCE_FIELDS.len()];
-        let fields = fields_of(kind).unwrap_or(&SOURCE_FIELDS[..1]);
-        for (value, field) in values.iter_mut().zip(fields) {
-            *value = number(front(&mut left, bytes_of(field))?) as i64;
-        }
-        let record = Record::of_values(kind, &values);
+        let next = |field: &Field| front(&mut left, bytes_of(field)).map_or(0, number) as i64;
+        let record = Record::of(kind, next);
         Some(Writing { record, room })
     }
 
