@@ -1,17 +1,18 @@
 // The book: sources and receivers in their slots, and what each receiver has gathered.
 // A refused call changes nothing, so every call finds out all it needs before it writes.
 
+use crate::fields::{RECEIVERS, RECEIVER_SLOT, SOURCES, SOURCE_SLOT};
 use crate::level::{energy, level};
 use crate::record::{read, Record};
 use crate::road::{
     emission, judge_receiver, judge_slot, judge_source, refusal, shares, Receiver, Refusal, Shares,
-    Source, RECEIVERS, SOURCES,
+    Source, GREATEST_SHARE,
 };
 
 pub use crate::store::{decode, encode};
 
-/// The greatest sum a receiver may hold.
-pub const TOP: i64 = 512_000_000_000_000_000;
+/// The greatest sum a receiver may hold: the greatest share from every slot.
+pub const TOP: i64 = SOURCES as i64 * GREATEST_SHARE;
 
 /// A receiver in use, with its sums for day, evening and night.
 #[derive(Clone, Copy, Debug, PartialEq, Eq)]
@@ -107,7 +108,7 @@ impl Book {
     }
 
     pub fn place_source(&mut self, slot: i64, source: &Source) -> Result<(), Refusal> {
-        judge_slot(slot, SOURCES)?;
+        judge_slot(slot, &SOURCE_SLOT)?;
         judge_source(source)?;
         if self.sources[slot as usize].is_some() {
             return Err(refusal(8));
@@ -120,7 +121,7 @@ impl Book {
     }
 
     pub fn withdraw_source(&mut self, slot: i64) -> Result<(), Refusal> {
-        judge_slot(slot, SOURCES)?;
+        judge_slot(slot, &SOURCE_SLOT)?;
         let source = self.sources[slot as usize].ok_or(refusal(9))?;
         let round = self.round(&source).map_err(|_| DAMAGED)?;
         let sums = self.changed_sums(&round, -1)?;
@@ -130,7 +131,7 @@ impl Book {
     }
 
     pub fn place_receiver(&mut self, slot: i64, receiver: &Receiver) -> Result<(), Refusal> {
-        judge_slot(slot, RECEIVERS)?;
+        judge_slot(slot, &RECEIVER_SLOT)?;
         judge_receiver(receiver)?;
         if self.accounts[slot as usize].is_some() {
             return Err(refusal(8));
@@ -159,13 +160,13 @@ impl Book {
     }
 
     pub fn withdraw_receiver(&mut self, slot: i64) -> Result<(), Refusal> {
-        judge_slot(slot, RECEIVERS)?;
+        judge_slot(slot, &RECEIVER_SLOT)?;
         self.accounts[slot as usize].take().ok_or(refusal(9))?;
         Ok(())
     }
 
     pub fn ask(&self, slot: i64) -> Result<Levels, Refusal> {
-        judge_slot(slot, RECEIVERS)?;
+        judge_slot(slot, &RECEIVER_SLOT)?;
         let account = self.accounts[slot as usize].as_ref().ok_or(refusal(9))?;
         Ok(indices(&account.sums))
     }
@@ -214,7 +215,7 @@ fn tenths(level: i64) -> i64 {
 
 /// Clears a stored state; refusal 1 only for one of the wrong length.
 pub fn clear(image: &mut [u8]) -> Answer {
-    if image.len() != crate::store::LENGTH {
+    if image.len() != crate::store::STORE_SIZE {
         return Answer::Refused(DAMAGED);
     }
     image.fill(0);

@@ -1,6 +1,8 @@
 // Chance from a seed: the same seed always makes the same jobs and stored states.
 // The generator is splitmix64, so that neighbouring seeds have nothing in common.
 
+use crate::fields::Field;
+
 pub struct Chance {
     state: u64,
 }
@@ -44,6 +46,16 @@ impl Chance {
             1 => most,
             _ => self.between(least, most),
         }
+    }
+
+    /// An allowed value of a field of one range.
+    pub fn within(&mut self, field: &Field) -> i64 {
+        self.between(field.least(), field.most())
+    }
+
+    /// Like `within`, but often the least or the greatest.
+    pub fn edge_in(&mut self, field: &Field) -> i64 {
+        self.edge(field.least(), field.most())
     }
 
     /// Like `between` from one, but small numbers are as likely as great ones.

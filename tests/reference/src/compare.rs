@@ -3,6 +3,7 @@
 
 use crate::probe::{HEAD, HEAD_NAMES};
 use std::io::{self, Read, Write};
+use std::path::PathBuf;
 use std::process::{Command, ExitCode, Stdio};
 use std::thread;
 
@@ -72,13 +73,22 @@ pub fn output_of(program: &str, input: &[u8]) -> io::Result<Vec<u8>> {
     }
 }
 
-/// Keeps bytes in the system's temporary folder and says where.
+/// Keeps bytes and says where.
 pub fn keep(name: &str, bytes: &[u8]) -> String {
-    let path = std::env::temp_dir().join(format!("ngoretaiwhe-{name}"));
-    match std::fs::write(&path, bytes) {
-        Ok(()) => format!("it is kept as {}", path.display()),
+    match keep_beside(name, bytes) {
+        Ok(path) => format!("it is kept as {}", path.display()),
         Err(error) => format!("it could not be kept: {error}"),
     }
+}
+
+/// Keeps bytes in a folder beside this program, with the number of this process in the name, so
+/// that no other run writes over them.
+fn keep_beside(name: &str, bytes: &[u8]) -> io::Result<PathBuf> {
+    let folder = std::env::current_exe()?.with_file_name("differences");
+    std::fs::create_dir_all(&folder)?;
+    let path = folder.join(format!("{}-{name}", std::process::id()));
+    std::fs::write(&path, bytes)?;
+    Ok(path)
 }
 
 /// The first line in which two listings differ.

@@ -3,20 +3,18 @@
 
 use crate::book::{encode, Book, TOP};
 use crate::chance::Chance;
-use crate::limits::trial_values;
-use crate::probe::Frame;
-use crate::record::{Record, RECEIVER_BITS, SOURCE_BITS};
-use crate::road::{Receiver, Source, MINUS};
-use crate::store::{
-    LENGTH, RECEIVERS_AT, RECEIVER_BYTES, RECEIVER_SLOT, SOURCE_BYTES, SOURCE_SLOT,
+use crate::fields::{
+    Field, CAR_SPEED, GRADIENT, MINUS, RECEIVERS, RECEIVER_FIELDS, SOURCES, SOURCE_FIELDS, SURFACE,
+    WALLS, WALL_HEIGHT, WALL_SPACING,
 };
-use crate::stores::set_field;
-
-/// Kinds that no record has.
-const UNLISTED: [u8; 11] = [0, 6, 7, 8, 9, 10, 11, 12, 13, 14, 15];
-
-/// Speeds at which a surface may count otherwise.
-const SURFACE_SPEEDS: [i64; 9] = [1, 39, 40, 49, 50, 60, 61, 130, 250];
+use crate::limits::{trial_values, TURNING_SPEEDS};
+use crate::probe::{Frame, LONGEST_IMAGE};
+use crate::record::{fields_of, kind_byte, spare_bits, unlisted_kinds, Record};
+use crate::road::{Receiver, Source};
+use crate::store::{
+    receiver_at, set_field, source_at, RECEIVER_BYTES, RECEIVER_SIZE, SOURCE_BYTES, SOURCE_SIZE,
+    STORE_SIZE, SUMS,
+};
 
 /// The receiver of the worked case at 25 m.
 pub fn example_receiver() -> Receiver {
@@ -88,75 +86,89 @@ fn cut_records() -> Vec<Vec<u8>> {
 
 /// Records of every kind not listed, as short as can be and long enough for any.
 fn unlisted_records() -> Vec<Vec<u8>> {
-    let short = UNLISTED.map(|kind| vec![kind << 4]);
-    let long = UNLISTED.map(|kind| vec![(kind << 4) | 5; 40]);
-    short.into_iter().chain(long).collect()
+    let kinds = unlisted_kinds().into_iter().map(kind_byte);
+    let short = kinds.clone().map(|byte| vec![byte]);
+    let long = kinds.map(|byte| vec![byte | 5; 40]);
+    short.chain(long).collect()
 }
 
 /// Every bit after the last field set alone, in every kind of record that has such bits.
 fn leftover_records() -> Vec<Vec<u8>> {
-    let receiver_bits = RECEIVER_BITS.iter().sum::<u32>();
     let mut broken = Vec::new();
-    for (record, bits) in one_of_each().iter().zip([receiver_bits, 6, 0, 9, 6]) {
-        if bits > 0 {
-            for spare in 0..(8 - (4 + bits) % 8) {
-                let mut bytes = record.bytes();
-                *bytes.last_mut().expect("no record is empty") |= 1 << spare;
-                broken.push(bytes);
-            }
+    for record in one_of_each() {
+        for spare in 0..spare_bits(record.kind()) {
+            let mut bytes = record.bytes();
+            *bytes.last_mut().expect("no record is empty") |= 1 << spare;
+            broken.push(bytes);
         }
     }
     broken
 }
 
-/// Sources with one field after the other at every value of so many bits worth trying.
-pub(crate) fn trial_sources(bits: &[u32]) -> Vec<Source> {
-    let mut sources = Vec::new();
-    for (number, &bits) in (2u16..).zip(bits) {
-        for base in [example_source(), walled_source()] {
-            for value in trial_values(&mut Chance::new(0), number, bits) {
-                let mut fields = base.fields();
-                fields[usize::from(number) - 2] = value;
-                sources.push(Source::of_fields(fields));
+/// Every kind of record with one field after the other, the slot among them, at every value
+/// worth trying in as many bits as it is to have.
+pub(crate) fn trial_records(bits: impl Fn(&Field) -> u32) -> Vec<Record> {
+    let mut records = Vec::new();
+    let walled = Record::PlaceSource(1, walled_source());
+    for record in one_of_each().into_iter().chain([walled]) {
+        let fields = fields_of(record.kind()).expect("every record has a listed kind");
+        for (at, field) in fields.iter().enumerate() {
+            for value in trial_values(&mut Chance::new(0), field, bits(field)) {
+                records.push(record.with(at, value));
             }
         }
     }
-    sources
+    records
 }
 
 /// Every surface at the speeds at which it may count otherwise.
 pub(crate) fn surfaced_sources() -> Vec<Source> {
-    let at_speed = |car_speed: i64| {
-        (1..=9).map(move |surface| Source {
+    let at_speed = |&car_speed: &i64| {
+        (SURFACE.least()..=SURFACE.most()).map(move |surface| Source {
             car_speed,
             surface,
             ..example_source()
         })
     };
-    SURFACE_SPEEDS.into_iter().flat_map(at_speed).collect()
+    TURNING_SPEEDS.iter().flat_map(at_speed).collect()
 }
 
-/// A job that tries one source after the other before the receiver of the worked case.
-fn parade(sources: &[Source]) -> Vec<u8> {
-    let mut job = Record::PlaceReceiver(5, example_receiver()).bytes();
-    for source in sources {
-        job.extend(bytes_of(&[
-            Record::PlaceSource(511, *source),
-            Record::Ask(5),
-            Record::WithdrawSource(511),
-        ]));
+/// A job that tries one record after the other beside the receiver of the worked case.
+/// What it places it asks about and takes away again; that receiver is placed anew where it may
+/// have gone.
+fn parade(records: &[Record]) -> Vec<u8> {
+    let stays = Record::PlaceReceiver(5, example_receiver());
+    let mut job = vec![stays];
+    for &record in records {
+        job.push(record);
+        match record {
+            Record::PlaceSource(slot, _) => {
+                job.extend([Record::Ask(5), Record::WithdrawSource(slot)]);
+            }
+            Record::PlaceReceiver(slot, _) => {
+                job.extend([Record::Ask(slot), Record::WithdrawReceiver(slot), stays]);
+            }
+            Record::WithdrawReceiver(_) => job.push(stays),
+            _ => {}
+        }
     }
-    job
+    bytes_of(&job)
+}
+
+/// Places a source into the last slot.
+fn place_last(source: Source) -> Record {
+    Record::PlaceSource(SOURCES as i64 - 1, source)
 }
 
 /// Jobs that are tried every time.
 pub fn fixed_jobs() -> Vec<Vec<u8>> {
     let after_example = |bytes: &Vec<u8>| [example(), bytes.clone()].concat();
+    let surfaced: Vec<Record> = surfaced_sources().into_iter().map(place_last).collect();
     let mut jobs = vec![
         Vec::new(),
         example(),
-        parade(&trial_sources(&SOURCE_BITS[1..])),
-        parade(&surfaced_sources()),
+        parade(&trial_records(|field| field.bits)),
+        parade(&surfaced),
         [example(), leftover_records().concat()].concat(),
     ];
     jobs.extend(cut_records().iter().map(after_example));
@@ -182,18 +194,9 @@ fn record_frames() -> Vec<Frame> {
     records.extend(cut_records());
     records.extend(unlisted_records());
     records.extend(leftover_records());
-    let sources = trial_sources(&SOURCE_BITS[1..])
-        .into_iter()
-        .chain(surfaced_sources());
-    records.extend(sources.map(|source| Record::PlaceSource(1, source).bytes()));
-    let heights = [0, 379, 380, 420, 421, 511];
-    records.extend(heights.map(|height| {
-        let receiver = Receiver {
-            height,
-            ..example_receiver()
-        };
-        Record::PlaceReceiver(6, receiver).bytes()
-    }));
+    let surfaced = surfaced_sources().into_iter().map(place_last);
+    let tried = trial_records(|field| field.bits).into_iter();
+    records.extend(tried.chain(surfaced).map(|record| record.bytes()));
     let mut frames = Vec::new();
     for record in records {
         for image in [example_image(), vec![1; 3]] {
@@ -217,64 +220,79 @@ fn field_frame(slot_at: usize, widths: &[usize], field: usize, value: u64) -> [F
 /// Probes of fields: each of a standing source and receiver at every value worth trying.
 fn field_frames() -> Vec<Frame> {
     let mut frames = Vec::new();
-    for (field, width) in SOURCE_BYTES.into_iter().enumerate() {
-        let bits = 8 * width as u32;
-        for value in trial_values(&mut Chance::new(0), field as u16 + 2, bits) {
-            frames.extend(field_frame(0, &SOURCE_BYTES, field, value as u64));
+    let parties = [
+        (&SOURCE_FIELDS[1..], source_at(0), &SOURCE_BYTES[..]),
+        (&RECEIVER_FIELDS[1..], receiver_at(5), &RECEIVER_BYTES[..]),
+    ];
+    for (fields, slot_at, widths) in parties {
+        for field in fields {
+            for value in trial_values(&mut Chance::new(0), field, field.stored_bits()) {
+                frames.extend(field_frame(slot_at, widths, field.index(), value as u64));
+            }
         }
     }
-    let receiver_at = RECEIVERS_AT + 5 * RECEIVER_SLOT;
-    for height in [0, 255, 379, 380, 420, 421, 511, 512, 65_535] {
-        frames.extend(field_frame(receiver_at, &RECEIVER_BYTES, 2, height));
-    }
-    let top = TOP as u64;
-    for sum in [0, 1, top - 1, top, top + 1, 1 << 63, u64::MAX] {
-        for field in 3..6 {
-            frames.extend(field_frame(receiver_at, &RECEIVER_BYTES, field, sum));
+    for sum in sum_edges() {
+        for field in SUMS..RECEIVER_BYTES.len() {
+            frames.extend(field_frame(receiver_at(5), &RECEIVER_BYTES, field, sum));
         }
     }
     frames
 }
 
+/// Sums worth trying: the greatest and those beside it, and the ends of what the bytes hold.
+pub(crate) fn sum_edges() -> [u64; 8] {
+    let (top, half) = (TOP as u64, 1 << 63);
+    [0, 1, top - 1, top, top + 1, half - 1, half, u64::MAX]
+}
+
 /// Probes of pairs of fields that hang together: surface and speed, walls and their sizes.
 fn paired_frames() -> Vec<Frame> {
     let mut frames = Vec::new();
-    let mut add = |settings: &[(usize, i64)]| {
+    let mut add = |settings: &[(Field, i64)]| {
         let mut image = example_image();
-        for &(field, value) in settings {
-            set_field(&mut image, 0, &SOURCE_BYTES, field, value as u64);
+        for (field, value) in settings {
+            set_field(
+                &mut image,
+                source_at(0),
+                &SOURCE_BYTES,
+                field.index(),
+                *value as u64,
+            );
         }
         let record = Record::Ask(5).bytes();
         frames.push(Frame { image, record });
     };
     for source in surfaced_sources() {
-        add(&[(4, source.car_speed), (6, source.surface)]);
+        add(&[(CAR_SPEED, source.car_speed), (SURFACE, source.surface)]);
     }
-    for walls in 0..=4 {
-        for height in [0, 1, 4000, 4001] {
-            for spacing in [0, 1, 16_383, 16_384] {
-                add(&[(9, walls), (10, height), (11, spacing)]);
+    for walls in WALLS.least()..=WALLS.most() + 1 {
+        for height in WALL_HEIGHT.edges(WALL_HEIGHT.stored_bits()) {
+            for spacing in WALL_SPACING.edges(WALL_SPACING.stored_bits()) {
+                add(&[
+                    (WALLS, walls),
+                    (WALL_HEIGHT, height),
+                    (WALL_SPACING, spacing),
+                ]);
             }
         }
     }
-    add(&[(7, MINUS)]);
+    add(&[(GRADIENT, MINUS)]);
     frames
 }
 
 /// Probes of single bytes: use marks, and every byte of slots that are not in use.
 fn byte_frames() -> Vec<Frame> {
     let mut places = Vec::new();
-    let first_sources = [0, SOURCE_SLOT, 511 * SOURCE_SLOT];
-    let receivers = [0, 5, 6, 63].map(|slot| RECEIVERS_AT + slot * RECEIVER_SLOT);
-    for mark in first_sources.into_iter().chain(receivers) {
+    let sources = [0, 1, SOURCES - 1].map(source_at);
+    let receivers = [0, 5, 6, RECEIVERS - 1].map(receiver_at);
+    for mark in sources.into_iter().chain(receivers) {
         places.extend([0, 1, 2, 3, 127, 128, 255].map(|byte| (mark, byte)));
     }
-    for slot_at in [SOURCE_SLOT, 511 * SOURCE_SLOT] {
-        places.extend((1..SOURCE_SLOT).map(|at| (slot_at + at, 1)));
+    for slot_at in [1, SOURCES - 1].map(source_at) {
+        places.extend((1..SOURCE_SIZE).map(|at| (slot_at + at, 1)));
     }
-    for slot in [0, 63] {
-        let slot_at = RECEIVERS_AT + slot * RECEIVER_SLOT;
-        places.extend((1..RECEIVER_SLOT).map(|at| (slot_at + at, 128)));
+    for slot_at in [0, RECEIVERS - 1].map(receiver_at) {
+        places.extend((1..RECEIVER_SIZE).map(|at| (slot_at + at, 128)));
     }
     let frame = |(at, byte): (usize, u8)| {
         let mut image = example_image();
@@ -288,7 +306,14 @@ fn byte_frames() -> Vec<Frame> {
 /// Probes of lengths, each with one record of every kind.
 fn length_frames() -> Vec<Frame> {
     let mut frames = Vec::new();
-    for length in [0, 1, LENGTH - 1, LENGTH, LENGTH + 1, 32_768] {
+    for length in [
+        0,
+        1,
+        STORE_SIZE - 1,
+        STORE_SIZE,
+        STORE_SIZE + 1,
+        LONGEST_IMAGE,
+    ] {
         for record in one_of_each() {
             let mut image = example_image();
             image.resize(length, 0);

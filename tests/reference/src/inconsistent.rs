@@ -3,16 +3,22 @@
 
 use crate::book::{mean_energy, Account, Book, TOP};
 use crate::chance::Chance;
-use crate::level::{energy, level};
-use crate::limits::{loud_road, tuned, way_of_square, Way, FAR_STEPS, HALVES, NEAR_STEPS};
+use crate::fields::{
+    FARTHEST, HEIGHT, RECEIVERS, RECEIVER_SLOT, SOURCES, SOURCE_SLOT, TRUCKS, VEHICLES,
+};
+use crate::fixed::example_receiver;
+use crate::level::{energy, level, FAINTEST};
+use crate::limits::{
+    loud_road, tuned, way_of_square, Way, APART, FAR_STEPS, HALF_NEAREST, HALVES, NEAR_STEPS, ROOM,
+};
 use crate::probe::Frame;
 use crate::record::Record;
 use crate::road::{
-    emission, root, shares, Receiver, Source, Traffic, FARTHEST, FARTHEST_SQUARE, NEAREST_SQUARE,
-    RECEIVERS, SOURCES,
+    emission, root, shares, Receiver, Source, Traffic, FARTHEST_SQUARE, LOUDEST, NEAREST_SQUARE,
+    SOURCE_HEIGHT,
 };
 use crate::stores::{fitting_record, frame_of, settled, slot_in};
-use crate::town::{road, traffic, Town};
+use crate::town::{road, traffic, Town, WIDE};
 
 /// What a source brings to a receiver; nothing where the pair is refused.
 fn brought(source: &Source, receiver: &Receiver) -> [i64; 3] {
@@ -66,13 +72,15 @@ pub(crate) fn high_sum(chance: &mut Chance) -> Frame {
 /// A distance at which a source of this length is too near, too far, too long or too loud,
 /// or at which it is mostly accepted.
 fn distance(chance: &mut Chance, length: i64, accepted: bool) -> i64 {
+    let (nearest, farthest) = (root(NEAREST_SQUARE), root(FARTHEST_SQUARE));
     if accepted {
-        return chance.between(40_000, 130_000);
+        return chance.between(farthest / 5, farthest * 2 / 3);
     }
+    let rise = HEIGHT.most() - SOURCE_HEIGHT;
     match chance.between(0, 3) {
-        0 => chance.between(0, 330),
-        1 => chance.between(200_000, 250_000),
-        2 => chance.between(400, 2 * length),
+        0 => chance.between(0, root(NEAREST_SQUARE - rise * rise)),
+        1 => chance.between(farthest, farthest * 5 / 4),
+        2 => chance.between(nearest, 2 * length),
         _ => 2 * length + chance.between(0, 60),
     }
 }
@@ -89,20 +97,20 @@ fn receiver_at(chance: &mut Chance, source: &Source, distance: i64) -> Receiver 
     Receiver {
         x: (source.x + dx).clamp(0, FARTHEST),
         y: (source.y + dy).clamp(0, FARTHEST),
-        height: chance.edge(380, 420),
+        height: chance.edge_in(&HEIGHT),
     }
 }
 
 /// A loud road with room around it and much traffic in one period at least.
 fn meeting_road(chance: &mut Chance) -> Source {
     let mut source = loud_road(chance);
-    source.length = chance.between(250, 2500);
-    source.x = chance.between(300_000, FARTHEST - 300_000);
-    source.y = chance.between(300_000, FARTHEST - 300_000);
+    source.length = chance.between(HALF_NEAREST, 10 * HALF_NEAREST);
+    source.x = chance.between(ROOM, FARTHEST - ROOM);
+    source.y = chance.between(ROOM, FARTHEST - ROOM);
     source.traffic = [(); 3].map(|()| traffic(chance));
     source.traffic[chance.index(3)] = Traffic {
-        vehicles: chance.between(5_000_000, 10_000_000),
-        trucks: chance.between(500, 1000),
+        vehicles: chance.between(VEHICLES.most() / 2, VEHICLES.most()),
+        trucks: chance.between(TRUCKS.most() / 2, TRUCKS.most()),
     };
     source
 }
@@ -179,7 +187,7 @@ pub(crate) fn met_by_receiver(chance: &mut Chance) -> Frame {
 /// to be withdrawn although the pair may be none that is accepted.
 fn lone_pair(chance: &mut Chance, receiver: Receiver, source: Source) -> Frame {
     let mut book = Book::cleared();
-    let (r, s) = (chance.edge(0, 63), chance.edge(0, 511));
+    let (r, s) = (chance.edge_in(&RECEIVER_SLOT), chance.edge_in(&SOURCE_SLOT));
     let sums = ample(chance);
     let act = chance.between(0, 2);
     if act != 0 {
@@ -213,9 +221,9 @@ fn tight_numbers(chance: &mut Chance) -> (i64, i64) {
 pub(crate) fn tight_square(chance: &mut Chance) -> Frame {
     let (square, length) = tight_numbers(chance);
     let fallback = Way {
-        dx: 358,
+        dx: root(NEAREST_SQUARE),
         dy: 0,
-        height: 400,
+        height: example_receiver().height,
     };
     let way = way_of_square(chance, square).unwrap_or(fallback);
     let receiver = way.receiver(chance);
@@ -227,23 +235,23 @@ pub(crate) fn tight_square(chance: &mut Chance) -> Frame {
 /// A pair of which one period's share level is just the loudest, or just above it.
 pub(crate) fn tight_level(chance: &mut Chance) -> Frame {
     let road = loud_road(chance);
-    tuned_pair(chance, road, 600, [8500, 9001])
+    tuned_pair(chance, road, 600, [LOUDEST - 500, LOUDEST + 1])
 }
 
 /// A pair of which one period's share level is just zero, or just below it.
 pub(crate) fn faint_level(chance: &mut Chance) -> Frame {
     let mut road = road(chance);
     road.length = chance.magnitude(180);
-    tuned_pair(chance, road, 140_000, [1, 0])
+    tuned_pair(chance, road, WIDE, [1, 0])
 }
 
 /// A pair tuned to the first level in two periods and to the second in the other one,
 /// each sometimes with a step of traffic less.
 fn tuned_pair(chance: &mut Chance, road: Source, farthest: i64, levels: [i64; 2]) -> Frame {
     let way = Way {
-        dx: chance.between(360, farthest),
-        dy: chance.between(360, farthest),
-        height: chance.edge(380, 420),
+        dx: chance.between(APART, farthest),
+        dy: chance.between(APART, farthest),
+        height: chance.edge_in(&HEIGHT),
     };
     let receiver = way.receiver(chance);
     let mut source = way.place(road, &receiver);
@@ -261,10 +269,10 @@ fn tuned_pair(chance: &mut Chance, road: Source, farthest: i64, levels: [i64; 2]
 /// A sum worth asking for: at, just above or just below the energy of a level.
 fn telling_sum(chance: &mut Chance) -> i64 {
     match chance.between(0, 5) {
-        0 => chance.pick(&[0, 1, 999_999, 1_000_000, 1_000_001, TOP - 1, TOP]),
+        0 => chance.pick(&[0, 1, FAINTEST - 1, FAINTEST, FAINTEST + 1, TOP - 1, TOP]),
         1 => chance.magnitude(TOP),
         2 => 0,
-        _ => energy(chance.between(0, 11_709)) + chance.between(-1, 1),
+        _ => energy(chance.between(0, level(TOP).unwrap_or(0))) + chance.between(-1, 1),
     }
 }
 
@@ -299,7 +307,7 @@ fn on_the_edge(sums: &[i64; 3]) -> bool {
 fn question(chance: &mut Chance, sums: [i64; 3]) -> Frame {
     let town = Town::anywhere(chance);
     let mut book = Book::cleared();
-    let slot = chance.edge(0, 63);
+    let slot = chance.edge_in(&RECEIVER_SLOT);
     book.accounts[slot as usize] = Some(Account {
         receiver: town.receiver(chance),
         sums,

@@ -2,12 +2,21 @@
 // A seed stands for one job; its remainder by the number of kinds says which kind it is.
 
 use crate::chance::Chance;
-use crate::limits::{
-    loud_road, trial_values, tuned, way_of_square, Way, FAR_STEPS, HALVES, NEAR_STEPS,
+use crate::fields::{
+    widest, FARTHEST, HEIGHT, LENGTH, RECEIVERS, RECEIVER_FIELDS, RECEIVER_SLOT, SOURCES,
+    SOURCE_FIELDS, SOURCE_SLOT,
 };
-use crate::record::{length_of, Record, SOURCE_BITS};
-use crate::road::{Receiver, Source, FARTHEST, FARTHEST_SQUARE, NEAREST_SQUARE};
-use crate::town::{road, traffic, Draft, Town};
+use crate::fixed::{example_receiver, one_of_each};
+use crate::limits::{
+    loud_road, trial_values, tuned, way_of_square, Way, APART, FAR_STEPS, HALF_NEAREST, HALVES,
+    NEAR_STEPS, PAPER_LENGTHS, PAPER_WAYS,
+};
+use crate::pieces::BUFFER;
+use crate::record::{
+    fields_of, kind_byte, kind_in, length_of, listed_kinds, spare_bits, unlisted_kinds, Record,
+};
+use crate::road::{Receiver, Source, FARTHEST_SQUARE, LOUDEST, NEAREST_SQUARE};
+use crate::town::{road, traffic, Draft, Town, WIDE};
 
 /// What makes one kind of job.
 type Maker = fn(&mut Chance) -> Vec<u8>;
@@ -24,7 +33,7 @@ pub fn job(seed: u64) -> Vec<u8> {
 }
 
 /// The bytes that a long job passes: more than twice what a program holds at a time.
-const LONG: usize = 140_000;
+const LONG: usize = 2 * BUFFER + 1;
 
 /// Many busy jobs end to end, none of which stops.
 pub fn long_job(seed: u64) -> Vec<u8> {
@@ -42,7 +51,7 @@ fn town(chance: &mut Chance) -> Vec<u8> {
 }
 
 fn peaceful_town(chance: &mut Chance, most: i64) -> Draft {
-    let town = Town::of_width(chance, 140_000);
+    let town = Town::of_width(chance, WIDE);
     let mut draft = Draft::default();
     for _ in 0..chance.between(20, most) {
         let record = town.record(chance, 200, 40);
@@ -68,11 +77,11 @@ fn churn(chance: &mut Chance) -> Vec<u8> {
 
 /// Several hundred sources, and receivers in nearly all slots.
 fn crowd(chance: &mut Chance) -> Vec<u8> {
-    let town = Town::of_width(chance, 140_000);
+    let town = Town::of_width(chance, WIDE);
     let mut draft = Draft::default();
-    let sources = chance.edge(200, 512);
-    for slot in 0..sources.max(64) {
-        if slot < 64 {
+    let sources = chance.edge(200, SOURCES as i64);
+    for slot in 0..sources.max(RECEIVERS as i64) {
+        if slot < RECEIVERS as i64 {
             draft.put_if_taken(Record::PlaceReceiver(slot, town.receiver(chance)));
         }
         if slot < sources {
@@ -81,7 +90,7 @@ fn crowd(chance: &mut Chance) -> Vec<u8> {
     }
     draft.ask_all(chance);
     for _ in 0..chance.between(0, 200) {
-        draft.put(town.record(chance, 512, 64));
+        draft.put(town.record(chance, SOURCES, RECEIVERS));
     }
     draft.ask_all(chance);
     draft.bytes
@@ -89,7 +98,7 @@ fn crowd(chance: &mut Chance) -> Vec<u8> {
 
 /// Receivers that come after the sources, go and come again.
 fn late(chance: &mut Chance) -> Vec<u8> {
-    let town = Town::of_width(chance, 140_000);
+    let town = Town::of_width(chance, WIDE);
     let mut draft = Draft::default();
     for slot in 0..chance.between(1, 150) {
         draft.put_if_taken(Record::PlaceSource(slot, town.source(chance)));
@@ -111,7 +120,7 @@ fn late(chance: &mut Chance) -> Vec<u8> {
 
 /// Puts a pair into slots of their own, in either order, asks and takes both away again.
 fn try_pair(draft: &mut Draft, chance: &mut Chance, receiver: Receiver, source: Source) {
-    let (r, s) = (chance.edge(0, 63), chance.edge(0, 511));
+    let (r, s) = (chance.edge_in(&RECEIVER_SLOT), chance.edge_in(&SOURCE_SLOT));
     let (first, second) = if chance.one_in(2) {
         (
             Record::PlaceReceiver(r, receiver),
@@ -147,14 +156,20 @@ fn near(chance: &mut Chance) -> Vec<u8> {
     let mut draft = Draft::default();
     for _ in 0..40 {
         let square = NEAREST_SQUARE + chance.pick(&NEAR_STEPS);
-        let length = chance.pick(&[1, 100, 249, 250, 251]);
+        let length = chance.pick(&[
+            LENGTH.least(),
+            100,
+            HALF_NEAREST - 1,
+            HALF_NEAREST,
+            HALF_NEAREST + 1,
+        ]);
         try_square(&mut draft, chance, square, length);
     }
-    for dx in [-358, -357, 0, 357, 358] {
+    for dx in PAPER_WAYS {
         let way = Way {
-            dx,
+            dx: dx * chance.pick(&[-1, 1]),
             dy: 0,
-            height: 400,
+            height: example_receiver().height,
         };
         let receiver = way.receiver(chance);
         let source = Source {
@@ -171,11 +186,12 @@ fn far(chance: &mut Chance) -> Vec<u8> {
     let mut draft = Draft::default();
     for _ in 0..8 {
         let square = FARTHEST_SQUARE + chance.pick(&FAR_STEPS);
-        let length = chance.pick(&[1, 5000, 99_999, 100_000]);
+        let length = chance.pick(&[LENGTH.least(), 5000, LENGTH.most() - 1, LENGTH.most()]);
         try_square(&mut draft, chance, square, length);
     }
     for (x, y) in [(0, 0), (FARTHEST, 0), (0, FARTHEST), (FARTHEST, FARTHEST)] {
-        let here = Receiver { x, y, height: 400 };
+        let height = chance.within(&HEIGHT);
+        let here = Receiver { x, y, height };
         let there = Source {
             x: FARTHEST - x,
             y: chance.pick(&[0, FARTHEST]),
@@ -196,11 +212,11 @@ fn long(chance: &mut Chance) -> Vec<u8> {
         let square = 4 * length * length + chance.pick(&[-1, 0, 1]);
         try_square(&mut draft, chance, square, length);
     }
-    for length in [1261, 1262, 1263, 1264] {
+    for length in PAPER_LENGTHS {
         let way = Way {
             dx: chance.pick(&[2500, -2500]),
             dy: 0,
-            height: 400,
+            height: example_receiver().height,
         };
         let receiver = way.receiver(chance);
         let source = Source {
@@ -215,9 +231,9 @@ fn long(chance: &mut Chance) -> Vec<u8> {
 /// A receiver and a way to a source, from the nearest to the given distance.
 fn some_way(chance: &mut Chance, farthest: i64) -> (Receiver, Way) {
     let way = Way {
-        dx: chance.between(360, farthest) * chance.pick(&[-1, 1]),
-        dy: chance.between(360, farthest) * chance.pick(&[-1, 1]),
-        height: chance.edge(380, 420),
+        dx: chance.between(APART, farthest) * chance.pick(&[-1, 1]),
+        dy: chance.between(APART, farthest) * chance.pick(&[-1, 1]),
+        height: chance.edge_in(&HEIGHT),
     };
     (way.receiver(chance), way)
 }
@@ -232,9 +248,9 @@ fn loud(chance: &mut Chance) -> Vec<u8> {
         for period in 0..3 {
             source.traffic[period] = traffic(chance);
             let level = if period == special || special == 3 {
-                9001
+                LOUDEST + 1
             } else {
-                8000
+                LOUDEST - 1000
             };
             if let Some(vehicles) = tuned(&source, &receiver, period, level) {
                 source.traffic[period].vehicles = vehicles - chance.between(0, 1);
@@ -249,7 +265,7 @@ fn loud(chance: &mut Chance) -> Vec<u8> {
 fn faint(chance: &mut Chance) -> Vec<u8> {
     let mut draft = Draft::default();
     for _ in 0..80 {
-        let (receiver, way) = some_way(chance, 140_000);
+        let (receiver, way) = some_way(chance, WIDE);
         let mut source = way.place(road(chance), &receiver);
         source.length = chance.magnitude(300);
         for period in 0..3 {
@@ -268,19 +284,32 @@ fn fields(chance: &mut Chance) -> Vec<u8> {
     let (receiver, way) = some_way(chance, 20_000);
     draft.put(Record::PlaceReceiver(0, receiver));
     let base = way.place(road(chance), &receiver);
-    for (number, bits) in (2u16..).zip(SOURCE_BITS.into_iter().skip(1)) {
-        for value in trial_values(chance, number, bits) {
+    for field in &SOURCE_FIELDS[1..] {
+        for value in trial_values(chance, field, field.bits) {
             let mut values = base.fields();
-            values[usize::from(number) - 2] = value;
+            values[field.index()] = value;
             try_source(&mut draft, Source::of_fields(values));
         }
     }
-    for height in [0, 1, 379, 380, 381, 419, 420, 421, 511] {
-        try_receiver(&mut draft, Receiver { height, ..receiver });
-        let (x, y) = (chance.edge(0, FARTHEST), chance.edge(0, FARTHEST));
-        try_receiver(&mut draft, Receiver { x, y, height });
+    for field in &RECEIVER_FIELDS[1..] {
+        for value in trial_values(chance, field, field.bits) {
+            let mut values = receiver.fields();
+            values[field.index()] = value;
+            try_receiver(&mut draft, Receiver::of_fields(values));
+        }
     }
+    try_slots(&mut draft, chance);
     draft.bytes
+}
+
+/// Puts one record of every kind on slots that may not be allowed.
+fn try_slots(draft: &mut Draft, chance: &mut Chance) {
+    for record in one_of_each() {
+        let slot = &fields_of(record.kind()).expect("every record has a listed kind")[0];
+        for value in trial_values(chance, slot, slot.bits) {
+            draft.put(record.with(0, value));
+        }
+    }
 }
 
 /// Adds a source that may not be allowed, asks and takes it away.
@@ -299,8 +328,8 @@ fn try_receiver(draft: &mut Draft, receiver: Receiver) {
 /// One road after the other before one receiver, each with every field anew.
 fn terms(chance: &mut Chance) -> Vec<u8> {
     let mut draft = Draft::default();
-    let mut farthest = 400;
-    while farthest < 140_000 {
+    let mut farthest = APART + 40;
+    while farthest < WIDE {
         let (receiver, way) = some_way(chance, farthest);
         draft.put(Record::PlaceReceiver(0, receiver));
         for _ in 0..20 {
@@ -319,11 +348,11 @@ fn sweep(chance: &mut Chance) -> Vec<u8> {
     draft.put(Record::PlaceReceiver(0, receiver));
     for _ in 0..4 {
         let base = way.place(road(chance), &receiver);
-        let at = chance.between(2, 17) as usize;
-        let most = (1 << SOURCE_BITS[at + 1]) - 1;
+        let field = chance.pick(&SOURCE_FIELDS[LENGTH.number.into()..]);
+        let most = widest(field.bits);
         for turn in 0..=255.min(most) {
             let mut values = base.fields();
-            values[at] = if most > 255 {
+            values[field.index()] = if most > 255 {
                 chance.magnitude(most)
             } else {
                 turn
@@ -340,8 +369,9 @@ fn twins(chance: &mut Chance) -> Vec<u8> {
     let (receiver, way) = some_way(chance, 30_000);
     let source = way.place(road(chance), &receiver);
     draft.put(Record::PlaceReceiver(9, receiver));
-    let first = chance.between(0, 480);
-    let last = first + chance.between(1, 31);
+    let more = chance.between(1, 31);
+    let first = chance.edge(0, SOURCE_SLOT.most() - more);
+    let last = first + more;
     for slot in first..=last {
         draft.put(Record::PlaceSource(slot, source));
         draft.put(Record::Ask(9));
@@ -372,11 +402,11 @@ fn flipped(chance: &mut Chance) -> Vec<u8> {
 fn leftover(chance: &mut Chance) -> Vec<u8> {
     let mut draft = peaceful_town(chance, 200);
     for &start in &draft.starts {
-        let kind = draft.bytes[start] >> 4;
-        let spare = [0, 5, 6, 0, 3, 6][usize::from(kind)];
+        let kind = kind_in(draft.bytes[start]);
+        let spare = spare_bits(kind);
         let length = length_of(kind).unwrap_or(1);
         if spare > 0 && chance.one_in(4) {
-            draft.bytes[start + length - 1] |= 1 << chance.index(spare);
+            draft.bytes[start + length - 1] |= 1 << chance.index(spare as usize);
         }
     }
     draft.bytes
@@ -387,8 +417,8 @@ fn unknown(chance: &mut Chance) -> Vec<u8> {
     let mut draft = peaceful_town(chance, 60);
     if chance.one_in(2) {
         let at = chance.pick(&draft.starts);
-        let kind = chance.pick(&[0, 6, 7, 8, 9, 10, 11, 12, 13, 14, 15]);
-        draft.bytes[at] = (kind << 4) | (draft.bytes[at] & 15);
+        let kind = chance.pick(&unlisted_kinds());
+        draft.bytes[at] = kind_byte(kind) | (draft.bytes[at] & 15);
     } else {
         let whole = draft.bytes.len();
         draft.bytes.truncate(chance.index(whole));
@@ -402,11 +432,11 @@ fn noise(chance: &mut Chance) -> Vec<u8> {
     let mut bytes = Vec::new();
     for _ in 0..chance.between(0, 40) {
         let kind = match chance.between(0, tame) {
-            0 => chance.between(0, 15),
-            _ => chance.between(1, 5),
+            0 => kind_in(chance.draw() as u8),
+            _ => chance.pick(&listed_kinds()),
         };
-        bytes.push((kind << 4) as u8 | chance.between(0, 15) as u8);
-        for _ in 1..length_of(kind as u8).unwrap_or(1) {
+        bytes.push(kind_byte(kind) | chance.between(0, 15) as u8);
+        for _ in 1..length_of(kind).unwrap_or(1) {
             bytes.push(chance.draw() as u8 & chance.draw() as u8);
         }
     }

@@ -4,8 +4,10 @@
 pub mod book;
 pub mod chance;
 pub mod compare;
+pub mod fields;
 pub mod fixed;
 mod inconsistent;
+pub mod inputs;
 pub mod jobs;
 pub mod level;
 pub mod limits;

@@ -2,10 +2,16 @@
 // What lies on a limit is searched for, so that one step further lies beyond it.
 
 use crate::chance::Chance;
+use crate::fields::{
+    widest, Field, CAR_SPEED, FARTHEST, GRADIENT, HEIGHT, LENGTH, MINUS, REFLECTION, STEEPEST,
+    TRUCK_SPEED, VEHICLES,
+};
 use crate::road::{
-    emission, plain_limits, root, share_levels, Receiver, Source, Traffic, FARTHEST, MINUS,
+    emission, root, share_levels, Receiver, Source, Traffic, CAR_SPEEDS, FARTHEST_SQUARE,
+    FAST_ABOVE, FAST_SURFACE, FLAT, NEAREST_SQUARE, SOURCE_HEIGHT, SURFACE_COLUMNS, TRUCK_SPEEDS,
 };
 use crate::town::road;
+use std::sync::LazyLock;
 
 /// How a source lies from a receiver of a certain height.
 #[derive(Clone, Copy, Debug)]
@@ -15,20 +21,72 @@ pub struct Way {
     pub height: i64,
 }
 
-/// Steps from the limits of squared distances to those nearest to them that there are:
-/// no allowed height lets a squared distance fall on either limit itself.
-pub const NEAR_STEPS: [i64; 4] = [-3, -2, 1, 2];
-pub const FAR_STEPS: [i64; 3] = [-2, 1, 2];
+/// Steps from the limits of squared distances to those nearest to them that there are.
+pub static NEAR_STEPS: LazyLock<Vec<i64>> = LazyLock::new(|| steps_around(NEAREST_SQUARE));
+pub static FAR_STEPS: LazyLock<Vec<i64>> = LazyLock::new(|| steps_around(FARTHEST_SQUARE));
 
-/// Lengths whose double can be a distance.
-pub const HALVES: [i64; 6] = [251, 252, 1000, 1263, 9999, 99_999];
+/// Half of the nearest distance.
+pub const HALF_NEAREST: i64 = 250;
+const _: () = assert!(4 * HALF_NEAREST * HALF_NEAREST == NEAREST_SQUARE);
+
+/// Lengths whose double can be a distance, from nearly the least to nearly the greatest.
+pub const HALVES: [i64; 6] = [
+    HALF_NEAREST + 1,
+    HALF_NEAREST + 2,
+    1000,
+    1263,
+    9999,
+    LENGTH.most() - 1,
+];
+
+/// Distances and lengths of which one or two are refused, as worked out on paper for the
+/// receiver of the example and, the lengths, for a distance of 25 m.
+pub const PAPER_WAYS: [i64; 3] = [0, 357, 358];
+pub const PAPER_LENGTHS: [i64; 4] = [1261, 1262, 1263, 1264];
+
+/// So far along both axes no pair is too near.
+pub const APART: i64 = 360;
+const _: () = assert!(2 * APART * APART >= NEAREST_SQUARE);
+
+/// Room on the map, enough for every distance that is accepted and some that are not.
+pub const ROOM: i64 = 500_000;
+const _: () = assert!(ROOM * ROOM > 2 * FARTHEST_SQUARE);
+
+/// Speeds at which something changes, for cars or for trucks, and those beside them.
+pub static TURNING_SPEEDS: LazyLock<Vec<i64>> = LazyLock::new(turning_speeds);
+
+fn turning_speeds() -> Vec<i64> {
+    let ends = [CAR_SPEEDS.0, CAR_SPEEDS.1, TRUCK_SPEEDS.0, TRUCK_SPEEDS.1];
+    let turns = ends.into_iter().chain(SURFACE_COLUMNS).chain([FAST_ABOVE]);
+    let mut speeds: Vec<i64> = turns.flat_map(|turn| [turn - 1, turn, turn + 1]).collect();
+    speeds.extend(CAR_SPEED.inner_edges());
+    speeds.extend(TRUCK_SPEED.inner_edges());
+    speeds.sort_unstable();
+    speeds.dedup();
+    speeds
+}
+
+/// Steps to the two squared distances nearest below a limit and the two nearest above it, and
+/// to the limit itself if any way has it.
+fn steps_around(limit: i64) -> Vec<i64> {
+    let steps = |sign: i64| {
+        let mut chance = Chance::new(0);
+        let there = move |step: &i64| way_of_square(&mut chance, limit + step).is_some();
+        let steps = (1..100).map(move |step| sign * step);
+        steps.filter(there).take(2)
+    };
+    let own = way_of_square(&mut Chance::new(0), limit).map(|_| 0);
+    steps(-1).chain(own).chain(steps(1)).collect()
+}
 
 /// A way whose squared distance in space is exactly the given one, if there is any.
 pub fn way_of_square(chance: &mut Chance, square: i64) -> Option<Way> {
-    let first = chance.between(0, 40);
-    for turn in 0..=40 {
-        let height = 380 + (first + turn) % 41;
-        let on_map = square - (height - 50) * (height - 50);
+    let heights = HEIGHT.most() - HEIGHT.least() + 1;
+    let first = chance.between(0, heights - 1);
+    for turn in 0..heights {
+        let height = HEIGHT.least() + (first + turn) % heights;
+        let rise = height - SOURCE_HEIGHT;
+        let on_map = square - rise * rise;
         if let Some((dx, dy)) = two_squares(chance, on_map) {
             return Some(turned(chance, Way { dx, dy, height }));
         }
@@ -73,8 +131,8 @@ impl Way {
     /// A receiver with room around it.
     pub fn receiver(&self, chance: &mut Chance) -> Receiver {
         Receiver {
-            x: chance.between(500_000, FARTHEST - 500_000),
-            y: chance.between(500_000, FARTHEST - 500_000),
+            x: chance.between(ROOM, FARTHEST - ROOM),
+            y: chance.between(ROOM, FARTHEST - ROOM),
             height: self.height,
         }
     }
@@ -92,17 +150,17 @@ impl Way {
 /// A road as loud as can be, but for its traffic and length.
 pub fn loud_road(chance: &mut Chance) -> Source {
     Source {
-        length: chance.between(150, 250),
+        length: chance.between(150, HALF_NEAREST),
         several_lanes: chance.between(0, 1),
-        car_speed: chance.between(100, 250),
-        truck_speed: chance.between(60, 250),
-        surface: 4,
-        gradient: chance.pick(&[120, MINUS + 120]),
+        car_speed: chance.between(100, CAR_SPEED.most()),
+        truck_speed: chance.between(60, TRUCK_SPEED.most()),
+        surface: FAST_SURFACE - 1,
+        gradient: chance.pick(&[STEEPEST, MINUS + STEEPEST]),
         walls: 1,
         wall_height: 2000,
         wall_spacing: 1500,
         traffic: [Traffic::default(); 3],
-        reflection: 0,
+        reflection: REFLECTION.least(),
         ..road(chance)
     }
 }
@@ -117,7 +175,7 @@ fn level_with(source: &Source, receiver: &Receiver, period: usize, vehicles: i64
 /// The least traffic that lifts one period's share level to the given one, if any does.
 pub fn tuned(source: &Source, receiver: &Receiver, period: usize, level: i64) -> Option<i64> {
     let lifts = |vehicles| level_with(source, receiver, period, vehicles) >= Some(level);
-    let (mut low, mut high) = (0, plain_limits(14).1);
+    let (mut low, mut high) = (0, VEHICLES.most());
     if !lifts(high) {
         return None;
     }
@@ -132,29 +190,32 @@ pub fn tuned(source: &Source, receiver: &Receiver, period: usize, level: i64) ->
     Some(high)
 }
 
-/// Values worth trying for a source field of so many bits, allowed or not.
-pub fn trial_values(chance: &mut Chance, number: u16, bits: u32) -> Vec<i64> {
-    let most = (1 << bits) - 1;
-    let mut values = match number {
-        9 => vec![0, 1, 50, 51, 119, 120, 121, 127],
-        12 => vec![0, 1, 2, 3999, 4000, 4001],
-        13 => vec![0, 1, 2, 16382, 16383, 16384],
-        _ => {
-            let (least, greatest) = plain_limits(number);
-            vec![
-                least - 1,
-                least,
-                least + 1,
-                greatest - 1,
-                greatest,
-                greatest + 1,
-            ]
-        }
-    };
-    if number == 9 {
-        values.extend([0, 1, 50, 51, 119, 120, 121, 127].map(|tenths| tenths + MINUS));
+/// Values at which a term changes, of the fields that have such.
+fn turns(field: &Field) -> Vec<i64> {
+    if field == &GRADIENT {
+        return vec![FLAT, FLAT + 1, MINUS + FLAT, MINUS + FLAT + 1];
     }
-    values.extend([0, most, chance.between(0, most)]);
-    values.retain(|value| (0..=most).contains(value));
+    if field == &CAR_SPEED || field == &TRUCK_SPEED {
+        return TURNING_SPEEDS.clone();
+    }
+    Vec::new()
+}
+
+/// A value worth trying for a field in so many bits, every other time one just past its edges.
+pub fn trial_value(chance: &mut Chance, field: &Field, bits: u32) -> i64 {
+    let past = field.outer_edges(bits);
+    if past.is_empty() || chance.one_in(2) {
+        let values = trial_values(chance, field, bits);
+        chance.pick(&values)
+    } else {
+        chance.pick(&past)
+    }
+}
+
+/// Values worth trying for a field in so many bits, allowed or not, and one by chance.
+pub fn trial_values(chance: &mut Chance, field: &Field, bits: u32) -> Vec<i64> {
+    let mut values = field.edges(bits);
+    values.extend(turns(field));
+    values.push(chance.between(0, widest(bits)));
     values
 }

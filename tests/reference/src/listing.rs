@@ -2,7 +2,7 @@
 // The job is carried out on a book that begins cleared.
 
 use crate::book::{Answer, Book};
-use crate::record::{length_of, read, Record};
+use crate::record::{kind_in, length_of, read, Record};
 use std::io::Write;
 
 /// What a job was made of and met: records tried, asks answered, each refusal's count.
@@ -74,7 +74,7 @@ pub fn list(mut job: &[u8], out: &mut Vec<u8>) -> Tally {
 
 /// What is left of a job after a record the reader refused: nothing after a 2 or a 3.
 fn rest_after(job: &[u8], number: u8) -> &[u8] {
-    match (number, length_of(job[0] >> 4)) {
+    match (number, length_of(kind_in(job[0]))) {
         (4.., Some(length)) => &job[length..],
         _ => &[],
     }

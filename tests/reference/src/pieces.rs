@@ -3,15 +3,32 @@
 
 use crate::chance::Chance;
 use crate::jobs::{job, long_job};
+use crate::record::LONGEST;
 use std::io::{self, Read, Write};
 use std::os::fd::{AsRawFd, RawFd};
 use std::os::raw::{c_int, c_ulong};
 use std::process::{Child, ChildStdin, Command, Stdio};
 use std::thread;
 
+/// The bytes of each buffer of the program, on either side, and of a page.
+pub const BUFFER: usize = 65_536;
+const PAGE: usize = 4096;
+
 /// Sizes around those of records, of pages and of the program's own buffers.
 const SIZES: [usize; 13] = [
-    1, 2, 3, 8, 29, 30, 31, 59, 4095, 4096, 65_535, 65_536, 65_537,
+    1,
+    2,
+    3,
+    8,
+    LONGEST - 1,
+    LONGEST,
+    LONGEST + 1,
+    2 * LONGEST - 1,
+    PAGE - 1,
+    PAGE,
+    BUFFER - 1,
+    BUFFER,
+    BUFFER + 1,
 ];
 
 /// Pieces of one job at most, so that single bytes do not take long.
@@ -38,7 +55,7 @@ pub fn delivery(seed: u64) -> Delivery {
         _ => job(seed),
     };
     let size = SIZES[(seed % SIZES.len() as u64) as usize];
-    if seed % 3 == 0 {
+    if chance.one_in(3) {
         job.truncate(chance.between(0, job.len() as i64) as usize);
     }
     let mixed = chance.one_in(4);

@@ -4,6 +4,7 @@
 use crate::book::{apply_stored, Answer, Levels};
 use crate::record::extent;
 use crate::road::Refusal;
+use crate::writing::Writing;
 
 /// A stored state of any length and the bytes of a record.
 #[derive(Clone, Debug, PartialEq, Eq)]
@@ -24,6 +25,10 @@ pub const HEAD: usize = 10;
 pub const HEAD_NAMES: [&str; HEAD] = [
     "tag", "number", "place", "place", "L_DEN", "L_DEN", "L_Night", "L_Night", "extent", "extent",
 ];
+
+/// The longest stored state and the longest record that the probing program takes.
+pub const LONGEST_IMAGE: usize = 32_768;
+pub const LONGEST_PIECE: usize = 64;
 
 /// How a quiet index is told.
 const QUIET: u16 = u16::MAX;
@@ -57,6 +62,21 @@ impl Frame {
     /// What a probing program writes: the head of the answer and the stored state.
     pub fn answered(&self, deed: Deed) -> Vec<u8> {
         [&head(deed)[..], &self.image].concat()
+    }
+}
+
+/// The answers to frames end to end, of stored states and of writing, as far as they are whole.
+pub fn answers(mut input: &[u8]) -> Vec<u8> {
+    let mut output = Vec::new();
+    loop {
+        if let Some(writing) = Writing::take(&mut input) {
+            output.extend(writing.answered());
+        } else if let Some(mut frame) = Frame::take(&mut input) {
+            let deed = frame.call();
+            output.extend(frame.answered(deed));
+        } else {
+            return output;
+        }
     }
 }
 

@@ -1,10 +1,8 @@
 // Job records: reading them from bytes and writing them into bytes.
 // Bits run from the most significant; the bits after the last field are zero.
 
-use crate::road::{
-    judge_receiver, judge_slot, judge_source, refusal, Receiver, Refusal, Source, RECEIVERS,
-    SOURCES,
-};
+use crate::fields::{Field, RECEIVER_FIELDS, RECEIVER_SLOT, SOURCE_FIELDS, SOURCE_SLOT};
+use crate::road::{judge_receiver, judge_slot, judge_source, refusal, Receiver, Refusal, Source};
 
 /// One record of a job, each with its slot.
 #[derive(Clone, Copy, Debug, PartialEq, Eq)]
@@ -16,39 +14,68 @@ pub enum Record {
     Ask(i64),
 }
 
-/// Bits of the kind that begins every record.
+/// Bits of the kind that begins every record, and the kinds that they can say.
 const KIND_BITS: u32 = 4;
+const SAID_KINDS: u8 = 1 << KIND_BITS;
 
-/// Bits of the fields, in their order, slot first.
-pub const RECEIVER_BITS: [u32; 4] = [6, 24, 24, 9];
-pub const SOURCE_BITS: [u32; 19] = [
-    9, 24, 24, 17, 1, 8, 8, 4, 8, 3, 2, 12, 14, 24, 10, 24, 10, 24, 10,
-];
-const RECEIVER_SLOT_BITS: [u32; 1] = [6];
-const SOURCE_SLOT_BITS: [u32; 1] = [9];
+/// The longest record, that of a source.
+pub const LONGEST: usize = whole_bytes(&SOURCE_FIELDS);
 
-/// The longest record.
-pub const LONGEST: usize = 30;
+/// The kind that begins with a byte.
+pub fn kind_in(byte: u8) -> u8 {
+    byte >> KIND_BITS
+}
 
-/// The fields' bits of a kind; none for a kind that is not listed.
-fn layout(kind: u8) -> Option<&'static [u32]> {
+/// The first byte of a record of this kind, without its fields.
+pub fn kind_byte(kind: u8) -> u8 {
+    kind << KIND_BITS
+}
+
+/// The fields of a kind; none for a kind that is not listed.
+pub fn fields_of(kind: u8) -> Option<&'static [Field]> {
     match kind {
-        1 => Some(&RECEIVER_BITS),
-        2 | 5 => Some(&RECEIVER_SLOT_BITS),
-        3 => Some(&SOURCE_BITS),
-        4 => Some(&SOURCE_SLOT_BITS),
+        1 => Some(&RECEIVER_FIELDS),
+        2 | 5 => Some(&RECEIVER_FIELDS[..1]),
+        3 => Some(&SOURCE_FIELDS),
+        4 => Some(&SOURCE_FIELDS[..1]),
         _ => None,
     }
 }
 
+/// The kinds that are listed.
+pub fn listed_kinds() -> Vec<u8> {
+    let listed = |kind: &u8| fields_of(*kind).is_some();
+    (0..SAID_KINDS).filter(listed).collect()
+}
+
+/// The kinds that no record has.
+pub fn unlisted_kinds() -> Vec<u8> {
+    let unlisted = |kind: &u8| fields_of(*kind).is_none();
+    (0..SAID_KINDS).filter(unlisted).collect()
+}
+
+const fn bits_of(fields: &[Field]) -> u32 {
+    let mut bits = KIND_BITS;
+    let mut at = 0;
+    while at < fields.len() {
+        bits += fields[at].bits;
+        at += 1;
+    }
+    bits
+}
+
+const fn whole_bytes(fields: &[Field]) -> usize {
+    bits_of(fields).div_ceil(8) as usize
+}
+
 /// Bytes of a record of this kind; none for a kind that is not listed.
 pub fn length_of(kind: u8) -> Option<usize> {
-    match kind {
-        1 => Some(9),
-        2 | 4 | 5 => Some(2),
-        3 => Some(LONGEST),
-        _ => None,
-    }
+    fields_of(kind).map(whole_bytes)
+}
+
+/// Bits after the last field of a record of this kind.
+pub fn spare_bits(kind: u8) -> u32 {
+    fields_of(kind).map_or(0, |fields| 8 * whole_bytes(fields) as u32 - bits_of(fields))
 }
 
 impl Record {
@@ -66,41 +93,80 @@ impl Record {
     pub fn judge(&self) -> Result<(), Refusal> {
         match self {
             Record::PlaceReceiver(slot, receiver) => {
-                judge_slot(*slot, RECEIVERS).and_then(|()| judge_receiver(receiver))
+                judge_slot(*slot, &RECEIVER_SLOT).and_then(|()| judge_receiver(receiver))
             }
             Record::PlaceSource(slot, source) => {
-                judge_slot(*slot, SOURCES).and_then(|()| judge_source(source))
+                judge_slot(*slot, &SOURCE_SLOT).and_then(|()| judge_source(source))
             }
-            Record::WithdrawReceiver(slot) | Record::Ask(slot) => judge_slot(*slot, RECEIVERS),
-            Record::WithdrawSource(slot) => judge_slot(*slot, SOURCES),
+            Record::WithdrawReceiver(slot) | Record::Ask(slot) => judge_slot(*slot, &RECEIVER_SLOT),
+            Record::WithdrawSource(slot) => judge_slot(*slot, &SOURCE_SLOT),
         }
     }
 
-    /// The fields, slot first.
-    fn fields(&self) -> Vec<i64> {
+    /// The slot.
+    pub fn slot(&self) -> i64 {
         match self {
-            Record::PlaceReceiver(slot, r) => vec![*slot, r.x, r.y, r.height],
-            Record::PlaceSource(slot, source) => {
-                let mut fields = vec![*slot];
-                fields.extend(source.fields());
-                fields
-            }
+            Record::PlaceReceiver(slot, _) | Record::PlaceSource(slot, _) => *slot,
             Record::WithdrawReceiver(slot) | Record::WithdrawSource(slot) | Record::Ask(slot) => {
-                vec![*slot]
+                *slot
             }
+        }
+    }
+
+    /// The values of the fields, slot first.
+    pub fn values(&self) -> Vec<i64> {
+        let mut values = vec![self.slot()];
+        match self {
+            Record::PlaceReceiver(_, receiver) => values.extend(receiver.fields()),
+            Record::PlaceSource(_, source) => values.extend(source.fields()),
+            _ => {}
+        }
+        values
+    }
+
+    /// The same record with another value of one field.
+    pub fn with(&self, at: usize, value: i64) -> Record {
+        let mut values = self.values();
+        values[at] = value;
+        let mut values = values.into_iter();
+        Record::of(self.kind(), |_| {
+            values.next().expect("every field has a value")
+        })
+    }
+
+    /// The record of a kind, an ask where the kind is not listed, from the values that are given
+    /// for its fields one after the other, slot first.
+    pub fn of(kind: u8, mut value: impl FnMut(&Field) -> i64) -> Record {
+        match kind {
+            1 => {
+                let slot = value(&RECEIVER_SLOT);
+                Record::PlaceReceiver(slot, Receiver::of_fields(rest(&RECEIVER_FIELDS, value)))
+            }
+            2 => Record::WithdrawReceiver(value(&RECEIVER_SLOT)),
+            3 => {
+                let slot = value(&SOURCE_SLOT);
+                Record::PlaceSource(slot, Source::of_fields(rest(&SOURCE_FIELDS, value)))
+            }
+            4 => Record::WithdrawSource(value(&SOURCE_SLOT)),
+            _ => Record::Ask(value(&RECEIVER_SLOT)),
         }
     }
 
     /// The record's bytes without any judgement; of each field the lowest bits.
     pub fn bytes(&self) -> Vec<u8> {
-        let bits = layout(self.kind()).expect("every record has a listed kind");
+        let fields = fields_of(self.kind()).expect("every record has a listed kind");
         let mut packer = Packer::default();
         packer.put(i64::from(self.kind()), KIND_BITS);
-        for (&value, &width) in self.fields().iter().zip(bits) {
-            packer.put(value, width);
+        for (value, field) in self.values().into_iter().zip(fields) {
+            packer.put(value, field.bits);
         }
         packer.finish()
     }
+}
+
+/// The values of the fields after the slot.
+fn rest<const N: usize>(fields: &[Field], mut value: impl FnMut(&Field) -> i64) -> [i64; N] {
+    std::array::from_fn(|at| value(&fields[at + 1]))
 }
 
 /// Puts fields of any width end to end.
@@ -129,13 +195,13 @@ impl Packer {
 }
 
 /// Takes fields of any width one after the other.
-struct Fields<'a> {
+struct Taker<'a> {
     bytes: std::slice::Iter<'a, u8>,
     held: u64,
     bits: u32,
 }
 
-impl Fields<'_> {
+impl Taker<'_> {
     fn take(&mut self, width: u32) -> i64 {
         while self.bits < width {
             let next = self.bytes.next().expect("the record is long enough");
@@ -155,43 +221,33 @@ impl Fields<'_> {
 /// How far on the next record begins: this record's length, or 0 where its kind is not listed
 /// or not all of its bytes are there.
 pub fn extent(bytes: &[u8]) -> usize {
-    let length = bytes.first().and_then(|byte| length_of(byte >> KIND_BITS));
+    let length = bytes.first().and_then(|&byte| length_of(kind_in(byte)));
     length.filter(|&length| length <= bytes.len()).unwrap_or(0)
+}
+
+/// Takes the record at the front of the bytes as it is, without judging its fields:
+/// the record and its length, or refusal 2 to 4.
+pub fn take(bytes: &[u8]) -> Result<(Record, usize), Refusal> {
+    let kind = kind_in(*bytes.first().ok_or(refusal(2))?);
+    let length = length_of(kind).ok_or(refusal(3))?;
+    let mut taker = Taker {
+        bytes: bytes.get(..length).ok_or(refusal(2))?.iter(),
+        held: 0,
+        bits: 0,
+    };
+    taker.take(KIND_BITS);
+    let record = Record::of(kind, |field| taker.take(field.bits));
+    if taker.leftover() {
+        return Err(refusal(4));
+    }
+    Ok((record, length))
 }
 
 /// Reads the record at the front of the bytes: the record and its length, or refusal 2 to 7.
 pub fn read(bytes: &[u8]) -> Result<(Record, usize), Refusal> {
-    let kind = bytes.first().ok_or(refusal(2))? >> KIND_BITS;
-    let length = length_of(kind).ok_or(refusal(3))?;
-    let part = bytes.get(..length).ok_or(refusal(2))?;
-    let mut fields = Fields {
-        bytes: part.iter(),
-        held: 0,
-        bits: 0,
-    };
-    fields.take(KIND_BITS);
-    let record = match kind {
-        1 => read_receiver(&mut fields),
-        2 => Record::WithdrawReceiver(fields.take(RECEIVER_BITS[0])),
-        3 => read_source(&mut fields),
-        4 => Record::WithdrawSource(fields.take(SOURCE_BITS[0])),
-        _ => Record::Ask(fields.take(RECEIVER_BITS[0])),
-    };
-    if fields.leftover() {
-        return Err(refusal(4));
-    }
+    let (record, length) = take(bytes)?;
     record.judge()?;
     Ok((record, length))
-}
-
-fn read_receiver(fields: &mut Fields) -> Record {
-    let [slot, x, y, height] = RECEIVER_BITS.map(|width| fields.take(width));
-    Record::PlaceReceiver(slot, Receiver { x, y, height })
-}
-
-fn read_source(fields: &mut Fields) -> Record {
-    let [slot, rest @ ..] = SOURCE_BITS.map(|width| fields.take(width));
-    Record::PlaceSource(slot, Source::of_fields(rest))
 }
 
 /// Writes a record at the front of the bytes: its length, or refusal 5 to 7 or the late 2.

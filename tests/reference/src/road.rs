@@ -1,7 +1,8 @@
 // Sources and receivers: their fields, which of them are allowed, and every term of the method.
 // Lengths are whole centimetres, levels whole hundredths of a decibel, all in signed 64 bits.
 
-use crate::level::{energy, lv};
+use crate::fields::{Field, MINUS, RECEIVER_FIELDS, SOURCE_FIELDS};
+use crate::level::{energy, lv, FAINTEST, STEPS};
 
 /// A number for the caller, with the field or slot it speaks of (0 where there is none).
 #[derive(Clone, Copy, Debug, PartialEq, Eq)]
@@ -48,21 +49,23 @@ pub struct Receiver {
     pub height: i64,
 }
 
-/// Slots of the book.
-pub const SOURCES: usize = 512;
-pub const RECEIVERS: usize = 64;
-
-/// The greatest value of a coordinate.
-pub const FARTHEST: i64 = (1 << 24) - 1;
-
-/// In a coded gradient, the bit that says downhill.
-pub const MINUS: i64 = 128;
-
-/// The loudest share level that is accepted.
+/// The loudest share level that is accepted, in whole ten decibels, and its energy.
 pub const LOUDEST: i64 = 9000;
+pub const GREATEST_SHARE: i64 = FAINTEST * 10i64.pow((LOUDEST / STEPS) as u32);
+
+/// Speeds of cars and of trucks that count; what is slower or faster is brought to the nearest.
+pub const CAR_SPEEDS: (i64, i64) = (30, 130);
+pub const TRUCK_SPEEDS: (i64, i64) = (30, 80);
+
+/// The first surface that is only for faster roads, and the speed that they pass.
+pub const FAST_SURFACE: i64 = 5;
+pub const FAST_ABOVE: i64 = 60;
+
+/// The steepness that a gradient has to pass to count.
+pub const FLAT: i64 = 50;
 
 /// Height of a source above the road.
-const SOURCE_HEIGHT: i64 = 50;
+pub const SOURCE_HEIGHT: i64 = 50;
 
 /// Squared distances between which a pair is accepted.
 pub const NEAREST_SQUARE: i64 = 250_000;
@@ -71,7 +74,10 @@ pub const FARTHEST_SQUARE: i64 = 40_000_000_000;
 /// The correction for the weather by day, evening and night.
 const WEATHER: [i64; 3] = [200, 100, 0];
 
-/// The correction for the surfaces 1 to 9, below 40, below 50 and from 50 km/h.
+/// The speeds from which the second and the third column of the surfaces count.
+pub const SURFACE_COLUMNS: [i64; 2] = [40, 50];
+
+/// The correction for the surfaces 1 to 9, in three columns of speeds.
 const SURFACES: [[i64; 3]; 9] = [
     [0, 0, 0],
     [100, 150, 200],
@@ -136,57 +142,40 @@ impl Source {
     }
 
     fn bounded_car_speed(&self) -> i64 {
-        self.car_speed.clamp(30, 130)
+        self.car_speed.clamp(CAR_SPEEDS.0, CAR_SPEEDS.1)
     }
 
     fn bounded_truck_speed(&self) -> i64 {
-        self.truck_speed.clamp(30, 80)
+        self.truck_speed.clamp(TRUCK_SPEEDS.0, TRUCK_SPEEDS.1)
     }
 
     /// The first of the fields 2 to 19 that is not allowed.
     fn first_wrong_field(&self) -> Option<u16> {
-        let fields = self.fields();
-        (2..).zip(fields).find_map(|(number, value)| {
-            let allowed = match number {
-                9 => gradient_allowed(value),
-                12 => self.wall_size_allowed(value, 4000),
-                13 => self.wall_size_allowed(value, 16383),
-                _ => within(plain_limits(number), value),
-            };
-            (!allowed).then_some(number)
-        })
+        let fields = SOURCE_FIELDS[1..].iter();
+        let mut judged = fields.zip(self.fields());
+        let wrong = judged.find(|&(field, value)| !self.allows(field, value));
+        wrong.map(|(field, _)| field.number)
     }
 
-    fn wall_size_allowed(&self, size: i64, most: i64) -> bool {
-        if self.walls == 0 {
-            size == 0
+    /// Whether a field may have a value; without walls their sizes are 0.
+    fn allows(&self, field: &Field, value: i64) -> bool {
+        if self.walls == 0 && field.of_walls() {
+            value == 0
         } else {
-            within((1, most), size)
+            field.allows(value)
         }
     }
 }
 
-fn within((least, most): (i64, i64), value: i64) -> bool {
-    least <= value && value <= most
-}
+impl Receiver {
+    /// The fields 2 to 4, in their order.
+    pub fn fields(&self) -> [i64; 3] {
+        [self.x, self.y, self.height]
+    }
 
-fn gradient_allowed(code: i64) -> bool {
-    within((0, 120), code) || within((MINUS + 1, MINUS + 120), code)
-}
-
-/// Least and greatest value of a source field that does not hang on another one.
-pub fn plain_limits(number: u16) -> (i64, i64) {
-    match number {
-        2 | 3 => (0, FARTHEST),
-        4 => (1, 100_000),
-        5 => (0, 1),
-        6 | 7 => (1, 250),
-        8 => (1, 9),
-        10 => (0, 4),
-        11 => (0, 3),
-        14 | 16 | 18 => (0, 10_000_000),
-        15 | 17 | 19 => (0, 1000),
-        _ => panic!("field {number} has no limits of its own"),
+    /// A receiver from its fields 2 to 4.
+    pub fn of_fields([x, y, height]: [i64; 3]) -> Receiver {
+        Receiver { x, y, height }
     }
 }
 
@@ -194,12 +183,12 @@ fn wrong_field(place: u16) -> Refusal {
     Refusal { number: 5, place }
 }
 
-/// Judges a slot number against the number of slots.
-pub fn judge_slot(slot: i64, slots: usize) -> Result<(), Refusal> {
-    if within((0, slots as i64 - 1), slot) {
+/// Judges a slot number: refusal 5.
+pub fn judge_slot(slot: i64, field: &Field) -> Result<(), Refusal> {
+    if field.allows(slot) {
         Ok(())
     } else {
-        Err(wrong_field(1))
+        Err(wrong_field(field.number))
     }
 }
 
@@ -208,7 +197,7 @@ pub fn judge_source(source: &Source) -> Result<(), Refusal> {
     if let Some(place) = source.first_wrong_field() {
         return Err(wrong_field(place));
     }
-    if source.surface >= 5 && source.car_speed <= 60 {
+    if source.surface >= FAST_SURFACE && source.car_speed <= FAST_ABOVE {
         return Err(refusal(6));
     }
     if truck_excess(source) < 0 {
@@ -219,14 +208,11 @@ pub fn judge_source(source: &Source) -> Result<(), Refusal> {
 
 /// Judges the fields 2 to 4 of a receiver: refusal 5.
 pub fn judge_receiver(receiver: &Receiver) -> Result<(), Refusal> {
-    let limits = [(0, FARTHEST), (0, FARTHEST), (380, 420)];
-    let fields = [receiver.x, receiver.y, receiver.height];
-    for ((place, value), limit) in (2..).zip(fields).zip(limits) {
-        if !within(limit, value) {
-            return Err(wrong_field(place));
-        }
+    let mut judged = RECEIVER_FIELDS[1..].iter().zip(receiver.fields());
+    match judged.find(|&(field, value)| !field.allows(value)) {
+        Some((field, _)) => Err(wrong_field(field.number)),
+        None => Ok(()),
     }
-    Ok(())
 }
 
 /// L25 of one period; none where nothing drives.
@@ -267,18 +253,18 @@ pub fn speed_term(car: i64, excess: i64, trucks: i64) -> i64 {
 
 /// The correction for the surface at the speed of the cars.
 pub fn surface_term(source: &Source) -> i64 {
-    let column = match source.bounded_car_speed() {
-        ..40 => 0,
-        40..50 => 1,
-        _ => 2,
-    };
+    let speed = source.bounded_car_speed();
+    let column = SURFACE_COLUMNS
+        .iter()
+        .filter(|&&from| from <= speed)
+        .count();
     SURFACES[source.surface as usize - 1][column]
 }
 
 /// The addition for a steep road, uphill or downhill.
 pub fn gradient_term(code: i64) -> i64 {
     let steepness = code % MINUS;
-    if steepness > 50 {
+    if steepness > FLAT {
         6 * steepness - 300
     } else {
         0

@@ -3,18 +3,24 @@
 
 use crate::book::{encode, Account, Book, TOP};
 use crate::chance::Chance;
+use crate::fields::{
+    Field, CAR_SPEED, HEIGHT, RECEIVERS, RECEIVER_FIELDS, RECEIVER_SLOT, REFLECTION, SOURCES,
+    SOURCE_FIELDS, SOURCE_SLOT, SURFACE, TRUCKS, WALLS, WALL_HEIGHT, WALL_SPACING,
+};
+use crate::fixed::sum_edges;
 use crate::inconsistent::{
     asked, bad_pair, barely_asked, faint_level, high_sum, low_sum, met_by_receiver, met_by_source,
     tight_level, tight_square,
 };
-use crate::limits::trial_values;
-use crate::probe::Frame;
-use crate::record::Record;
-use crate::road::{FARTHEST, MINUS, RECEIVERS, SOURCES};
+use crate::limits::trial_value;
+use crate::probe::{Frame, LONGEST_IMAGE, LONGEST_PIECE};
+use crate::record::{kind_byte, unlisted_kinds, Record};
+use crate::road::{Source, FAST_ABOVE, FAST_SURFACE};
 use crate::store::{
-    LENGTH, RECEIVERS_AT, RECEIVER_BYTES, RECEIVER_SLOT, SOURCE_BYTES, SOURCE_SLOT,
+    receiver_at, set_field, source_at, RECEIVERS_AT, RECEIVER_BYTES, RECEIVER_SIZE, SOURCE_BYTES,
+    SOURCE_SIZE, STORE_SIZE, SUMS,
 };
-use crate::town::{road, Town};
+use crate::town::{road, Town, WIDE};
 
 /// What makes one kind of probe.
 type Maker = fn(&mut Chance) -> Frame;
@@ -77,15 +83,15 @@ pub(crate) fn frame_of(book: &Book, record: &Record) -> Frame {
 
 /// A town and a book in which at least one source and one receiver stand.
 pub(crate) fn settled(chance: &mut Chance) -> (Town, Book) {
-    let town = Town::of_width(chance, 140_000);
+    let town = Town::of_width(chance, WIDE);
     let records = chance.between(5, 150);
     let mut book = town.history(chance, records);
     while book.sources.iter().flatten().next().is_none() {
-        let slot = chance.edge(0, 511);
+        let slot = chance.edge_in(&SOURCE_SLOT);
         let _ = book.place_source(slot, &town.source(chance));
     }
     while book.accounts.iter().flatten().next().is_none() {
-        let slot = chance.edge(0, 63);
+        let slot = chance.edge_in(&RECEIVER_SLOT);
         let _ = book.place_receiver(slot, &town.receiver(chance));
     }
     (town, book)
@@ -121,8 +127,8 @@ fn sound(chance: &mut Chance) -> Frame {
     let (town, book) = settled(chance);
     let record = fitting_record(chance, &town, &book);
     let mut frame = frame_of(&book, &record);
-    let room = 64 - frame.record.len() as i64;
-    for _ in 0..chance.edge(0, room) {
+    let room = LONGEST_PIECE - frame.record.len();
+    for _ in 0..chance.edge(0, room as i64) {
         frame.record.push(chance.draw() as u8);
     }
     frame
@@ -135,7 +141,7 @@ fn any_state(chance: &mut Chance) -> (Frame, Record) {
     let mut frame = frame_of(&book, &record);
     match chance.between(0, 5) {
         0 => frame.image[RECEIVERS_AT] ^= 2,
-        1 => frame.image.truncate(chance.index(LENGTH)),
+        1 => frame.image.truncate(chance.index(STORE_SIZE)),
         _ => {}
     }
     (frame, record)
@@ -145,7 +151,10 @@ fn any_state(chance: &mut Chance) -> (Frame, Record) {
 fn spoil(chance: &mut Chance, bytes: &mut Vec<u8>) {
     match chance.between(0, 3) {
         0 => bytes.truncate(chance.index(bytes.len() + 1)),
-        1 => bytes.insert(0, chance.pick(&[0x05, 0x60, 0x7f, 0x80, 0xf5])),
+        1 => bytes.insert(
+            0,
+            kind_byte(chance.pick(&unlisted_kinds())) | chance.index(16) as u8,
+        ),
         2 => {
             let spare = 1 << chance.index(3);
             bytes.last_mut().into_iter().for_each(|byte| *byte |= spare);
@@ -168,7 +177,7 @@ fn disallowed(chance: &mut Chance) -> Frame {
     let (mut frame, record) = any_state(chance);
     frame.record = match record {
         Record::PlaceReceiver(slot, mut receiver) => {
-            receiver.height = chance.pick(&[0, 379, 421, 511]);
+            receiver.height = chance.pick(&HEIGHT.outer_edges(HEIGHT.bits));
             Record::PlaceReceiver(slot, receiver).bytes()
         }
         _ => broken_source(chance),
@@ -176,23 +185,35 @@ fn disallowed(chance: &mut Chance) -> Frame {
     frame
 }
 
-/// The bytes of a source with one field, or its surface, not allowed.
+/// The bytes of a source with one field, or two, or its surface, not allowed.
 fn broken_source(chance: &mut Chance) -> Vec<u8> {
     let mut source = road(chance);
     match chance.between(0, 15) {
-        0 => source.length = chance.pick(&[0, 100_001]),
-        1 => source.car_speed = chance.pick(&[0, 251]),
-        2 => source.truck_speed = chance.pick(&[0, 255]),
-        3 => source.surface = chance.pick(&[0, 10, 15]),
-        4 => source.gradient = chance.pick(&[121, MINUS, MINUS + 121]),
-        5 => source.reflection = chance.between(5, 7),
-        6 => source.wall_height = 4001,
-        7 => source.traffic[chance.index(3)].vehicles = 10_000_001,
-        8 => source.traffic[chance.index(3)].trucks = 1001,
-        9 => (source.reflection, source.traffic[2].trucks) = (7, 1023),
-        _ => (source.surface, source.car_speed) = (chance.between(5, 9), chance.between(1, 60)),
+        0 => {
+            source.reflection = REFLECTION.most() + 1;
+            source.traffic[2].trucks = TRUCKS.most() + 1;
+        }
+        1..=5 => {
+            source.surface = chance.between(FAST_SURFACE, SURFACE.most());
+            source.car_speed = chance.between(CAR_SPEED.least(), FAST_ABOVE);
+        }
+        _ => source = past_an_edge(chance, source),
     }
-    Record::PlaceSource(chance.between(0, 511), source).bytes()
+    Record::PlaceSource(chance.within(&SOURCE_SLOT), source).bytes()
+}
+
+/// The same source with one field just past what is allowed.
+fn past_an_edge(chance: &mut Chance, mut source: Source) -> Source {
+    let breakable = |field: &&Field| !field.outer_edges(field.bits).is_empty();
+    let fields: Vec<&Field> = SOURCE_FIELDS[1..].iter().filter(breakable).collect();
+    let field = chance.pick(&fields);
+    if field.of_walls() {
+        source.walls = WALLS.most();
+        (source.wall_height, source.wall_spacing) = (WALL_HEIGHT.most(), WALL_SPACING.most());
+    }
+    let mut values = source.fields();
+    values[field.index()] = chance.pick(&field.outer_edges(field.bits));
+    Source::of_fields(values)
 }
 
 /// A state that never was a book's: bytes by chance, one byte throughout, or a few in a cleared one.
@@ -205,7 +226,7 @@ fn noise(chance: &mut Chance) -> Frame {
         1 => frame.image.fill(chance.pick(&[0, 1, 255])),
         _ => {
             for _ in 0..chance.between(0, 2) {
-                let at = chance.index(LENGTH);
+                let at = chance.index(STORE_SIZE);
                 frame.image[at] = chance.draw() as u8;
             }
         }
@@ -220,12 +241,12 @@ fn flipped(chance: &mut Chance) -> Frame {
     let mut frame = frame_of(&book, &record);
     for _ in 0..chance.pick(&[1, 1, 1, 2, 5]) {
         let at = match chance.between(0, 3) {
-            0 => chance.index(LENGTH),
+            0 => chance.index(STORE_SIZE),
             1 => {
                 let slot = slot_in(chance, &book.accounts, true);
-                RECEIVERS_AT + slot * RECEIVER_SLOT + chance.index(RECEIVER_SLOT)
+                receiver_at(slot) + chance.index(RECEIVER_SIZE)
             }
-            _ => slot_in(chance, &book.sources, true) * SOURCE_SLOT + chance.index(SOURCE_SLOT),
+            _ => source_at(slot_in(chance, &book.sources, true)) + chance.index(SOURCE_SIZE),
         };
         frame.image[at] ^= 1 << chance.index(8);
     }
@@ -239,9 +260,9 @@ fn marked(chance: &mut Chance) -> Frame {
     let mut frame = frame_of(&book, &record);
     let used = chance.one_in(2);
     let at = if chance.one_in(2) {
-        slot_in(chance, &book.sources, used) * SOURCE_SLOT
+        source_at(slot_in(chance, &book.sources, used))
     } else {
-        RECEIVERS_AT + slot_in(chance, &book.accounts, used) * RECEIVER_SLOT
+        receiver_at(slot_in(chance, &book.accounts, used))
     };
     frame.image[at] = chance.pick(&[0, 1, 2, 3, 128, 129, 255]);
     frame
@@ -253,26 +274,14 @@ fn unused_byte(chance: &mut Chance) -> Frame {
     let record = fitting_record(chance, &town, &book);
     let mut frame = frame_of(&book, &record);
     let at = if chance.one_in(2) {
-        slot_in(chance, &book.sources, false) * SOURCE_SLOT + chance.edge(1, 35) as usize
+        let slot = slot_in(chance, &book.sources, false);
+        source_at(slot) + chance.edge(1, SOURCE_SIZE as i64 - 1) as usize
     } else {
         let slot = slot_in(chance, &book.accounts, false);
-        RECEIVERS_AT + slot * RECEIVER_SLOT + chance.edge(1, 32) as usize
+        receiver_at(slot) + chance.edge(1, RECEIVER_SIZE as i64 - 1) as usize
     };
     frame.image[at] = chance.pick(&[0, 1, 128, 255]);
     frame
-}
-
-/// Puts a value into a field of a slot, given where the slot is and the widths of its fields.
-pub(crate) fn set_field(
-    image: &mut [u8],
-    slot_at: usize,
-    widths: &[usize],
-    field: usize,
-    value: u64,
-) {
-    let from = slot_at + 1 + widths[..field].iter().sum::<usize>();
-    let width = widths[field];
-    image[from..from + width].copy_from_slice(&value.to_be_bytes()[8 - width..]);
 }
 
 /// A field of a standing source at its limit, beyond it, or beyond what a record can hold.
@@ -280,25 +289,36 @@ fn source_field(chance: &mut Chance) -> Frame {
     let (town, book) = settled(chance);
     let record = fitting_record(chance, &town, &book);
     let mut frame = frame_of(&book, &record);
-    let at = slot_in(chance, &book.sources, true) * SOURCE_SLOT;
-    let mut set = |field: usize, value: i64| {
-        set_field(&mut frame.image, at, &SOURCE_BYTES, field, value as u64);
+    let at = source_at(slot_in(chance, &book.sources, true));
+    let mut set = |field: &Field, value: i64| {
+        set_field(
+            &mut frame.image,
+            at,
+            &SOURCE_BYTES,
+            field.index(),
+            value as u64,
+        );
     };
     match chance.between(0, 9) {
         0 => {
-            set(4, chance.pick(&[1, 60, 61, 250]));
-            set(6, chance.between(4, 10));
+            set(
+                &CAR_SPEED,
+                chance.pick(&[1, FAST_ABOVE, FAST_ABOVE + 1, CAR_SPEED.most()]),
+            );
+            set(
+                &SURFACE,
+                chance.between(FAST_SURFACE - 1, SURFACE.most() + 1),
+            );
         }
         1 => {
-            set(9, chance.between(0, 4));
-            set(10, chance.pick(&[0, 1, 4000, 4001, 65535]));
-            set(11, chance.pick(&[0, 1, 16383, 16384, 65535]));
+            set(&WALLS, chance.between(0, WALLS.most() + 1));
+            for size in [WALL_HEIGHT, WALL_SPACING] {
+                set(&size, chance.pick(&size.edges(size.stored_bits())));
+            }
         }
         _ => {
-            let field = chance.index(SOURCE_BYTES.len());
-            let bits = 8 * SOURCE_BYTES[field] as u32;
-            let values = trial_values(chance, field as u16 + 2, bits);
-            set(field, chance.pick(&values));
+            let field = chance.pick(&SOURCE_FIELDS[1..]);
+            set(&field, trial_value(chance, &field, field.stored_bits()));
         }
     }
     frame
@@ -309,13 +329,17 @@ fn receiver_field(chance: &mut Chance) -> Frame {
     let (town, book) = settled(chance);
     let record = fitting_record(chance, &town, &book);
     let mut frame = frame_of(&book, &record);
-    let at = RECEIVERS_AT + slot_in(chance, &book.accounts, true) * RECEIVER_SLOT;
-    let field = chance.pick(&[0, 1, 2, 2, 2, 2]);
-    let value = match field {
-        2 => chance.pick(&[0, 256, 379, 380, 400, 420, 421, 511, 65535]),
-        _ => chance.edge(0, FARTHEST),
-    };
-    set_field(&mut frame.image, at, &RECEIVER_BYTES, field, value as u64);
+    let at = receiver_at(slot_in(chance, &book.accounts, true));
+    let any = chance.pick(&RECEIVER_FIELDS[1..]);
+    let field = chance.pick(&[any, HEIGHT]);
+    let value = trial_value(chance, &field, field.stored_bits());
+    set_field(
+        &mut frame.image,
+        at,
+        &RECEIVER_BYTES,
+        field.index(),
+        value as u64,
+    );
     frame
 }
 
@@ -324,17 +348,16 @@ fn sums(chance: &mut Chance) -> Frame {
     let (town, book) = settled(chance);
     let record = fitting_record(chance, &town, &book);
     let mut frame = frame_of(&book, &record);
-    let at = RECEIVERS_AT + slot_in(chance, &book.accounts, true) * RECEIVER_SLOT;
+    let at = receiver_at(slot_in(chance, &book.accounts, true));
     let top = TOP as u64;
     let sum = match chance.between(0, 7) {
         0 | 1 => top + chance.between(0, 1) as u64,
-        2 => top - 1,
-        3 => chance.pick(&[u64::MAX, 1 << 63, (1 << 63) - 1, top + (1 << 32), 2 * top]),
-        4 => chance.between(0, TOP) as u64,
-        5 => chance.draw(),
-        _ => 0,
+        2..=4 => chance.pick(&sum_edges()),
+        5 => chance.pick(&[top + (1 << 32), 2 * top]),
+        6 => chance.between(0, TOP) as u64,
+        _ => chance.draw(),
     };
-    let field = 3 + chance.index(3);
+    let field = SUMS + chance.index(RECEIVER_BYTES.len() - SUMS);
     set_field(&mut frame.image, at, &RECEIVER_BYTES, field, sum);
     frame
 }
@@ -344,15 +367,16 @@ fn wrong_length(chance: &mut Chance) -> Frame {
     let (town, book) = settled(chance);
     let record = fitting_record(chance, &town, &book);
     let mut frame = frame_of(&book, &record);
-    let any = chance.between(0, 32_768) as usize;
-    let length = chance.pick(&[0, 1, LENGTH - 1, LENGTH + 1, LENGTH, any, any, 32_768]);
+    let any = chance.index(LONGEST_IMAGE + 1);
+    let near = chance.pick(&[STORE_SIZE - 1, STORE_SIZE, STORE_SIZE + 1]);
+    let length = chance.pick(&[0, 1, near, near, near, any, any, LONGEST_IMAGE]);
     frame.image.resize(length, 0);
     frame
 }
 
 /// Every slot in use, with sums that leave room for anything.
 fn dense(chance: &mut Chance) -> Frame {
-    let town = Town::of_width(chance, 140_000);
+    let town = Town::of_width(chance, WIDE);
     let mut book = Book::cleared();
     for slot in &mut book.sources {
         let mut source = town.source(chance);

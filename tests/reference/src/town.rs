@@ -3,13 +3,29 @@
 
 use crate::book::{Answer, Book};
 use crate::chance::Chance;
+use crate::fields::{
+    Field, CAR_SPEED, FARTHEST, HEIGHT, LANES, MINUS, RECEIVERS, RECEIVER_SLOT, REFLECTION,
+    SOURCES, STEEPEST, SURFACE, TRUCKS, TRUCK_SPEED, VEHICLES, WALLS, WALL_HEIGHT, WALL_SPACING,
+};
+use crate::limits::TURNING_SPEEDS;
 use crate::record::Record;
-use crate::road::{Receiver, Source, Traffic, FARTHEST, MINUS, RECEIVERS, SOURCES};
+use crate::road::{
+    Receiver, Source, Traffic, FARTHEST_SQUARE, FAST_ABOVE, FAST_SURFACE, FLAT, SOURCE_HEIGHT,
+};
 
-/// Speeds at which something changes, for cars and for trucks.
-const TURNING_SPEEDS: [i64; 18] = [
-    1, 29, 30, 31, 39, 40, 41, 49, 50, 60, 61, 79, 80, 81, 129, 130, 131, 250,
-];
+/// The width of a town in which no two points are too far apart.
+pub const WIDE: i64 = 140_000;
+const RISE: i64 = HEIGHT.most() - SOURCE_HEIGHT;
+const _: () = assert!(2 * WIDE * WIDE + RISE * RISE <= FARTHEST_SQUARE);
+
+/// The greatest surface of a road for cars of this speed.
+pub const fn surfaces_at(car_speed: i64) -> i64 {
+    if car_speed > FAST_ABOVE {
+        SURFACE.most()
+    } else {
+        FAST_SURFACE - 1
+    }
+}
 
 /// Where a town lies and how wide it is.
 #[derive(Clone, Copy)]
@@ -22,7 +38,7 @@ pub struct Town {
 impl Town {
     /// A town of a width by chance, anywhere on the map.
     pub fn anywhere(chance: &mut Chance) -> Town {
-        let width = chance.pick(&[2_000, 10_000, 40_000, 140_000, 140_000, 400_000]);
+        let width = chance.pick(&[2_000, 10_000, 40_000, WIDE, WIDE, 400_000]);
         Town::of_width(chance, width)
     }
 
@@ -42,7 +58,7 @@ impl Town {
 
     pub fn receiver(&self, chance: &mut Chance) -> Receiver {
         let (x, y) = self.spot(chance);
-        let height = chance.edge(380, 420);
+        let height = chance.edge_in(&HEIGHT);
         Receiver { x, y, height }
     }
 
@@ -87,19 +103,19 @@ fn slot(chance: &mut Chance, count: usize, all: usize) -> i64 {
     }
 }
 
-fn speed(chance: &mut Chance) -> i64 {
+fn speed(chance: &mut Chance, field: &Field) -> i64 {
     if chance.one_in(2) {
         chance.pick(&TURNING_SPEEDS)
     } else {
-        chance.between(1, 250)
+        chance.within(field)
     }
 }
 
 fn gradient(chance: &mut Chance) -> i64 {
     let steepness = if chance.one_in(2) {
-        chance.pick(&[0, 1, 49, 50, 51, 52, 119, 120])
+        chance.pick(&[0, 1, FLAT - 1, FLAT, FLAT + 1, STEEPEST - 1, STEEPEST])
     } else {
-        chance.between(0, 120)
+        chance.between(0, STEEPEST)
     };
     if steepness > 0 && chance.one_in(2) {
         steepness + MINUS
@@ -112,19 +128,19 @@ fn gradient(chance: &mut Chance) -> i64 {
 pub fn traffic(chance: &mut Chance) -> Traffic {
     let vehicles = match chance.between(0, 9) {
         0 => 0,
-        1 => 10_000_000,
-        2..=4 => chance.magnitude(10_000_000),
+        1 => VEHICLES.most(),
+        2..=4 => chance.magnitude(VEHICLES.most()),
         _ => chance.between(1_000, 4_000_000),
     };
-    let trucks = chance.edge(0, 1000);
+    let trucks = chance.edge_in(&TRUCKS);
     Traffic { vehicles, trucks }
 }
 
 fn walls(chance: &mut Chance) -> (i64, i64, i64) {
-    let kind = chance.between(0, 3);
+    let kind = chance.within(&WALLS);
     let sizes = match (kind, chance.between(0, 3)) {
         (0, _) => (0, 0),
-        (_, 0) => (chance.edge(1, 4000), chance.edge(1, 16383)),
+        (_, 0) => (chance.edge_in(&WALL_HEIGHT), chance.edge_in(&WALL_SPACING)),
         _ => (chance.between(1, 1500), chance.between(800, 4000)),
     };
     (kind, sizes.0, sizes.1)
@@ -132,19 +148,18 @@ fn walls(chance: &mut Chance) -> (i64, i64, i64) {
 
 /// An allowed road at no place in particular.
 pub fn road(chance: &mut Chance) -> Source {
-    let car_speed = speed(chance);
-    let surfaces = if car_speed > 60 { 9 } else { 4 };
+    let car_speed = speed(chance, &CAR_SPEED);
     let (walls, wall_height, wall_spacing) = walls(chance);
     Source {
         x: 0,
         y: 0,
         length: chance.magnitude(6000),
-        several_lanes: chance.between(0, 1),
+        several_lanes: chance.within(&LANES),
         car_speed,
-        truck_speed: speed(chance),
-        surface: chance.between(1, surfaces),
+        truck_speed: speed(chance, &TRUCK_SPEED),
+        surface: chance.between(SURFACE.least(), surfaces_at(car_speed)),
         gradient: gradient(chance),
-        reflection: chance.between(0, 4),
+        reflection: chance.within(&REFLECTION),
         walls,
         wall_height,
         wall_spacing,
@@ -189,6 +204,6 @@ impl Draft {
                 self.put(Record::Ask(slot as i64));
             }
         }
-        self.put(Record::Ask(chance.between(0, 63)));
+        self.put(Record::Ask(chance.within(&RECEIVER_SLOT)));
     }
 }

@@ -10,7 +10,7 @@ use reference::road::Refusal;
 use reference::stores::frame;
 use reference::writing::{fixed_writings, writing, Writing};
 
-const SEEDS: std::ops::RangeInclusive<u64> = 1..=300;
+const SEEDS: std::ops::RangeInclusive<u64> = 1..=600;
 
 #[test]
 fn jobs_meet_every_refusal() {

@@ -2,16 +2,25 @@
 // Also what the rules say of refusals, on the smallest books that show it.
 
 use reference::book::{clear, decode, encode, Answer, Book, Levels, TOP};
+use reference::fields::{
+    Field, GRADIENT, HEIGHT, RECEIVERS, RECEIVER_FIELDS, SOURCES, SOURCE_FIELDS, SURFACE,
+};
 use reference::fixed::{example, example_receiver, example_source};
 use reference::level::{energy, entry, level, lv};
 use reference::listing::list;
-use reference::record::{read, write, Record};
+use reference::record::{length_of, listed_kinds, read, write, Record};
 use reference::road::{
     car_level, distance_term, emission, gradient_term, ground_term, root, share_levels, speed_term,
     squares, traffic_term, truck_excess, truck_level, wall_term, Receiver, Refusal, Source,
-    Traffic,
+    Traffic, GREATEST_SHARE, LOUDEST,
 };
-use reference::store::LENGTH;
+use reference::store::{
+    field_at, receiver_at, source_at, RECEIVER_BYTES, RECEIVER_SIZE, SOURCE_BYTES, SOURCE_SIZE,
+    STORE_SIZE, SUMS,
+};
+
+/// The last slot of a source.
+const LAST: i64 = SOURCES as i64 - 1;
 
 fn speeds(car_speed: i64, truck_speed: i64) -> Source {
     Source {
@@ -197,7 +206,7 @@ fn the_reader_says_the_lowest_number() {
     assert_eq!(number(&[0x61]), Err((3, 0)));
     assert_eq!(number(&[0x51, 0x41]), Err((4, 0)));
     let low = Receiver {
-        height: 379,
+        height: HEIGHT.least() - 1,
         ..example_receiver()
     };
     let mut bytes = Record::PlaceReceiver(5, low).bytes();
@@ -221,57 +230,116 @@ fn the_writer_says_a_short_output_last() {
     let unchanged = out;
     let short = write(&place, &mut out[..8]).unwrap_err();
     assert_eq!((short.number, short.place), (2, 0));
-    let nowhere = write(&Record::Ask(64), &mut out[..0]).unwrap_err();
+    let nowhere = write(&Record::Ask(RECEIVERS as i64), &mut out[..0]).unwrap_err();
     assert_eq!((nowhere.number, nowhere.place), (5, 1));
     assert_eq!(out, unchanged);
 }
 
-#[test]
-fn the_first_wrong_field_is_named() {
-    let wrong = |field: usize, value: i64| {
-        let mut fields = example_source().fields();
-        fields[field - 2] = value;
-        Book::cleared().place_source(0, &Source::of_fields(fields))
-    };
-    let beyond = [
-        (2, 1 << 24),
-        (3, -1),
-        (4, 0),
-        (5, 2),
-        (6, 251),
-        (7, 0),
-        (8, 10),
-        (9, 128),
-        (10, 5),
-        (11, 4),
-        (12, 1),
-        (13, 1),
-        (14, 10_000_001),
-        (15, 1001),
-        (18, -1),
-        (19, 1001),
-    ];
-    for (field, value) in beyond {
-        assert_eq!(wrong(field, value), refused(5, field as u16));
-    }
-    assert_eq!(wrong(11, 1), refused(5, 12));
+/// The limits of a source's fields as they are on paper, but the gradient's: the number, the
+/// bits, the least and the greatest value.
+const SOURCE_PAPER: [(u16, u32, i64, i64); 18] = [
+    (1, 9, 0, 511),
+    (2, 24, 0, 16_777_215),
+    (3, 24, 0, 16_777_215),
+    (4, 17, 1, 100_000),
+    (5, 1, 0, 1),
+    (6, 8, 1, 250),
+    (7, 8, 1, 250),
+    (8, 4, 1, 9),
+    (10, 3, 0, 4),
+    (11, 2, 0, 3),
+    (12, 12, 1, 4000),
+    (13, 14, 1, 16_383),
+    (14, 24, 0, 10_000_000),
+    (15, 10, 0, 1000),
+    (16, 24, 0, 10_000_000),
+    (17, 10, 0, 1000),
+    (18, 24, 0, 10_000_000),
+    (19, 10, 0, 1000),
+];
+
+/// The same of a receiver.
+const RECEIVER_PAPER: [(u16, u32, i64, i64); 4] = [
+    (1, 6, 0, 63),
+    (2, 24, 0, 16_777_215),
+    (3, 24, 0, 16_777_215),
+    (4, 9, 380, 420),
+];
+
+/// Whether a record with one field at a value is refused for this field.
+fn named(record: &Record, number: u16, value: i64) -> bool {
+    let at = usize::from(number) - 1;
     let mut book = Book::cleared();
-    assert_eq!(book.place_source(512, &example_source()), refused(5, 1));
-    assert_eq!(book.withdraw_receiver(64), refused(5, 1));
+    book.apply(&record.with(at, value)) == Answer::Refused(refused(5, number).unwrap_err())
+}
+
+#[test]
+fn limits_are_those_on_paper() {
+    let source = Record::PlaceSource(0, walled(1, 600, 1200));
+    let receiver = Record::PlaceReceiver(0, example_receiver());
+    let sources = SOURCE_PAPER.map(|limits| (source, &SOURCE_FIELDS[..], limits));
+    let receivers = RECEIVER_PAPER.map(|limits| (receiver, &RECEIVER_FIELDS[..], limits));
+    for (record, fields, (number, bits, least, most)) in sources.into_iter().chain(receivers) {
+        let field = fields[usize::from(number) - 1];
+        assert_eq!((field.number, field.bits), (number, bits));
+        let refused = [least - 1, least, most, most + 1].map(|v| named(&record, number, v));
+        assert_eq!(refused, [true, false, false, true], "{}", field.name);
+    }
+    let gradient = |value| named(&source, 9, value);
+    let refused = [-1, 0, 120, 121, 127, 128, 129, 248, 249].map(gradient);
+    let paper = [true, false, false, true, true, true, false, false, true];
+    assert_eq!((GRADIENT.bits, refused), (8, paper));
+}
+
+#[test]
+fn walls_and_their_sizes_hang_together() {
+    let place = |walls, height, spacing| {
+        let outcome = Book::cleared().place_source(0, &walled(walls, height, spacing));
+        outcome.err().map(|refusal| (refusal.number, refusal.place))
+    };
+    assert_eq!(place(0, 0, 0), None);
+    assert_eq!(place(0, 1, 0), Some((5, 12)));
+    assert_eq!(place(0, 0, 1), Some((5, 13)));
+    for walls in 1..=3 {
+        assert_eq!(place(walls, 0, 0), Some((5, 12)));
+        assert_eq!(place(walls, 1, 0), Some((5, 13)));
+        assert_eq!(place(walls, 1, 1), None);
+    }
+}
+
+#[test]
+fn slots_stand_before_the_other_fields() {
+    let mut book = Book::cleared();
+    let low = Receiver::default();
+    assert_eq!(book.place_receiver(RECEIVERS as i64, &low), refused(5, 1));
+    assert_eq!(book.place_receiver(0, &low), refused(5, 4));
+    assert_eq!(book.withdraw_receiver(RECEIVERS as i64), refused(5, 1));
+    assert_eq!(book.withdraw_source(SOURCES as i64), refused(5, 1));
+    assert_eq!(book.ask(-1).map(|_| ()), refused(5, 1));
+}
+
+#[test]
+fn sizes_come_out_as_on_paper() {
+    let lengths: Vec<_> = listed_kinds().into_iter().map(length_of).collect();
+    assert_eq!(lengths, [9, 2, 30, 2, 2].map(Some));
+    assert_eq!((SOURCE_SIZE, RECEIVER_SIZE), (36, 33));
+    assert_eq!((receiver_at(0), STORE_SIZE), (18_432, 20_544));
+    assert_eq!(TOP, 512 * 10i64.pow(15));
+    assert_eq!(energy(LOUDEST), GREATEST_SHARE);
 }
 
 #[test]
 fn a_source_brings_and_takes_its_share_wherever_it_comes_in() {
     let mut early = with_receiver();
     early.place_source(3, &example_source()).unwrap();
-    early.place_source(511, &at(110_000, 1000)).unwrap();
+    early.place_source(LAST, &at(110_000, 1000)).unwrap();
     let mut late = Book::cleared();
-    late.place_source(511, &at(110_000, 1000)).unwrap();
+    late.place_source(LAST, &at(110_000, 1000)).unwrap();
     late.place_source(3, &example_source()).unwrap();
     late.place_receiver(5, &example_receiver()).unwrap();
     assert_eq!(early, late);
     assert_eq!(early.place_source(3, &example_source()), refused(8, 0));
-    early.withdraw_source(511).unwrap();
+    early.withdraw_source(LAST).unwrap();
     early.withdraw_source(3).unwrap();
     assert_eq!(early, with_receiver());
     assert_eq!(early.withdraw_source(3), refused(9, 0));
@@ -287,9 +355,10 @@ fn pairs_are_tried_before_the_late_damage() {
         x: 102_500,
         ..example_receiver()
     };
-    book.place_receiver(63, &close).unwrap();
-    assert_eq!(book.place_source(0, &example_source()), refused(10, 63));
-    book.withdraw_receiver(63).unwrap();
+    let last = RECEIVERS as u16 - 1;
+    book.place_receiver(last.into(), &close).unwrap();
+    assert_eq!(book.place_source(0, &example_source()), refused(10, last));
+    book.withdraw_receiver(last.into()).unwrap();
     assert_eq!(book, before);
     book.accounts[5].as_mut().unwrap().sums[1] -= 1;
     assert_eq!(book.place_source(0, &example_source()), Ok(()));
@@ -315,9 +384,9 @@ fn a_withdrawal_that_no_history_has_is_late_damage() {
 #[test]
 fn stored_states_come_back_and_damage_is_seen() {
     let mut book = with_receiver();
-    book.place_source(511, &example_source()).unwrap();
+    book.place_source(LAST, &example_source()).unwrap();
     let image = encode(&book);
-    assert_eq!(image.len(), 20_544);
+    assert_eq!(image.len(), STORE_SIZE);
     assert_eq!(decode(&image), Some(book));
     assert_eq!(decode(&image[1..]), None);
     let damaged = |at: usize, byte: u8| {
@@ -325,15 +394,18 @@ fn stored_states_come_back_and_damage_is_seen() {
         image[at] = byte;
         decode(&image).is_none()
     };
-    assert!(damaged(0, 1) && damaged(0, 2) && damaged(35, 1));
-    assert!(damaged(511 * 36, 0) && damaged(511 * 36 + 13, 0) && damaged(511 * 36 + 14, 128));
-    assert!(damaged(18_432 + 5 * 33, 2) && damaged(18_432 + 5 * 33 + 9, 8));
-    assert!(!damaged(18_432 + 5 * 33 + 9, 7) && !damaged(511 * 36 + 1, 9));
+    let last = source_at(LAST as usize);
+    let field = |field: &Field| field_at(last, &SOURCE_BYTES, field.index());
+    let sum = field_at(receiver_at(5), &RECEIVER_BYTES, SUMS);
+    assert!(damaged(0, 1) && damaged(0, 2) && damaged(SOURCE_SIZE - 1, 1));
+    assert!(damaged(last, 0) && damaged(field(&SURFACE), 0) && damaged(field(&GRADIENT), 128));
+    assert!(damaged(receiver_at(5), 2) && damaged(sum, 8));
+    assert!(!damaged(sum, 7) && !damaged(last + 1, 9));
 }
 
 #[test]
 fn clearing_refuses_only_the_wrong_length() {
-    let mut image = vec![255; LENGTH];
+    let mut image = vec![255; STORE_SIZE];
     assert_eq!(clear(&mut image), Answer::Done);
     assert_eq!(decode(&image), Some(Book::cleared()));
     let damaged = Refusal {

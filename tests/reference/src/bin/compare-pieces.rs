@@ -3,11 +3,8 @@
 
 use reference::compare::{difference, keep, run, Order};
 use reference::listing::{list, Tally};
-use reference::pieces::{delivery, output_in_pieces, Delivery};
+use reference::pieces::{delivery, output_in_pieces, Delivery, BUFFER};
 use std::process::ExitCode;
-
-/// The bytes of each buffer of the program, on either side.
-const BUFFER: usize = 65_536;
 
 fn main() -> ExitCode {
     run("compare-pieces PROGRAM COUNT [SEED]", compare)

@@ -5,6 +5,7 @@ use reference::book::{decode, Answer};
 use reference::compare::{compare_probes, refusal_counts, run, Order, Probe};
 use reference::fixed::fixed_frames;
 use reference::probe::Frame;
+use reference::record::kind_in;
 use reference::stores::{frame, kind_name};
 use std::collections::BTreeMap;
 use std::process::ExitCode;
@@ -37,7 +38,7 @@ impl Tally {
     }
 
     fn count_late(&mut self, record: &[u8]) {
-        match record[0] >> 4 {
+        match kind_in(record[0]) {
             3 => self.late_placing += 1,
             _ => self.late_withdrawing += 1,
         }

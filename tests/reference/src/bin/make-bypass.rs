@@ -1,6 +1,7 @@
 // Prints the example job: a bypass that bends around a village, cut into sixty pieces.
 // One receiver is placed too near on purpose, to show what a refusal looks like.
 
+use reference::fields::HEIGHT;
 use reference::record::Record;
 use reference::road::{root, Receiver, Source, Traffic};
 use std::io::{self, Write};
@@ -52,12 +53,12 @@ fn receivers() -> [Receiver; 12] {
         beside(3, 5_000, 400),
         beside(8, 8_000, 400),
         beside(13, 12_000, 400),
-        beside(18, 20_000, 380),
+        beside(18, 20_000, HEIGHT.least()),
         beside(23, 35_000, 400),
         beside(28, 60_000, 400),
         beside(33, 100_000, 400),
         beside(38, 150_000, 400),
-        beside(43, -25_000, 420),
+        beside(43, -25_000, HEIGHT.most()),
         beside(48, -10_000, 400),
         beside(53, -6_000, 400),
         beside(58, -4_500, 400),

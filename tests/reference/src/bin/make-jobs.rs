@@ -2,14 +2,13 @@
 // and a town that is asked. Every record in them is taken.
 
 use reference::chance::Chance;
+use reference::fields::{HEIGHT, LANES, MINUS, RECEIVERS, SOURCES, SURFACE};
 use reference::record::Record;
-use reference::road::{Receiver, Source, Traffic, MINUS, RECEIVERS, SOURCES};
-use reference::town::Draft;
+use reference::road::{Receiver, Source, Traffic};
+use reference::town::{surfaces_at, Draft, WIDE};
 use std::path::Path;
 use std::process::ExitCode;
 
-/// The town's width, so that no two points of it are too far apart.
-const WIDTH: i64 = 140_000;
 const CORNER: i64 = 5_000_000;
 const EDITS: usize = 20_000;
 const ASKS: usize = 200_000;
@@ -35,8 +34,8 @@ fn write_all(folder: &Path) -> std::io::Result<()> {
 }
 
 fn spot(chance: &mut Chance) -> (i64, i64) {
-    let x = CORNER + chance.between(0, WIDTH);
-    let y = CORNER + chance.between(0, WIDTH);
+    let x = CORNER + chance.between(0, WIDE);
+    let y = CORNER + chance.between(0, WIDE);
     (x, y)
 }
 
@@ -53,16 +52,15 @@ fn traffic(chance: &mut Chance) -> [Traffic; 3] {
 fn road(chance: &mut Chance, x: i64, y: i64) -> Source {
     let (car_speed, truck_speed) =
         chance.pick(&[(30, 30), (50, 50), (70, 60), (100, 80), (130, 80)]);
-    let surfaces = if car_speed > 60 { 9 } else { 4 };
     let walls = chance.pick(&[0, 0, 0, 0, 1, 2]);
     Source {
         x,
         y,
         length: chance.between(300, 2000),
-        several_lanes: chance.between(0, 1),
+        several_lanes: chance.within(&LANES),
         car_speed,
         truck_speed,
-        surface: chance.between(1, surfaces),
+        surface: chance.between(SURFACE.least(), surfaces_at(car_speed)),
         gradient: chance.between(1, 80) + chance.pick(&[0, MINUS]),
         reflection: chance.pick(&[0, 0, 0, 1, 2]),
         walls,
@@ -77,7 +75,7 @@ fn town(chance: &mut Chance) -> Draft {
     let mut draft = Draft::default();
     for slot in 0..RECEIVERS as i64 {
         let (x, y) = spot(chance);
-        let height = chance.between(380, 420);
+        let height = chance.within(&HEIGHT);
         let receiver = Receiver { x, y, height };
         assert!(draft.put_if_taken(Record::PlaceReceiver(slot, receiver)));
     }

@@ -1,0 +1,124 @@
+// The inputs that the programs job and probe are tried on each time they are built.
+// The files stdin of their crates hold just these bytes, and stdout what has to come of them.
+
+use crate::fields::{FARTHEST, HEIGHT, RECEIVERS, RECEIVER_SLOT, SOURCE_SLOT, VEHICLES};
+use crate::fixed::{example, example_receiver, example_source};
+use crate::probe::Frame;
+use crate::record::{kind_byte, Record, LONGEST};
+use crate::road::{Receiver, Source, FAST_ABOVE, FAST_SURFACE};
+use crate::writing::Writing;
+
+/// The input of the job program: the job whose listing is worked out on paper.
+pub fn job_input() -> Vec<u8> {
+    example()
+}
+
+/// The input of the probing program: stored states, then calls to write, then a broken frame.
+pub fn probe_input() -> Vec<u8> {
+    let mut input = Vec::new();
+    stored_states()
+        .iter()
+        .for_each(|frame| frame.put(&mut input));
+    writings()
+        .iter()
+        .for_each(|writing| writing.put(&mut input));
+    input.extend(broken_off());
+    input
+}
+
+fn place_receiver() -> Record {
+    Record::PlaceReceiver(5, example_receiver())
+}
+
+fn place_source() -> Record {
+    Record::PlaceSource(0, example_source())
+}
+
+fn frame(image: &[u8], record: &[u8]) -> Frame {
+    Frame {
+        image: image.to_vec(),
+        record: record.to_vec(),
+    }
+}
+
+/// Stored states that are all too short, so that every one is damaged and comes back as it is,
+/// with records of which the reader would take some and refuse others.
+fn stored_states() -> [Frame; 8] {
+    let ask = Record::Ask(5).bytes();
+    let place = place_receiver().bytes();
+    let two_records = [place_source().bytes(), ask.clone()].concat();
+    let mut leftover = Record::WithdrawSource(SOURCE_SLOT.most()).bytes();
+    leftover[1] |= 0b111;
+    [
+        // nothing at all
+        frame(&[], &[]),
+        // three bytes, asked
+        frame(&[1; 3], &ask),
+        // no bytes, and a receiver to place
+        frame(&[], &place),
+        // a kind that is not listed
+        frame(&[0], &[kind_byte(15)]),
+        // a record that lacks its last byte
+        frame(&[2, 3], &place[..place.len() - 1]),
+        // a source to place, and a record after it that is not looked at
+        frame(&[0xff; 5], &two_records),
+        // the last source to withdraw, with every leftover bit set
+        frame(&[0; 4], &leftover),
+        // the last receiver to withdraw
+        frame(
+            &[7],
+            &Record::WithdrawReceiver(RECEIVER_SLOT.most()).bytes(),
+        ),
+    ]
+}
+
+fn writing(record: Record, room: usize) -> Writing {
+    Writing { record, room }
+}
+
+/// Calls to write, with more room than the record takes, just enough, and too little.
+fn writings() -> [Writing; 12] {
+    let receiver = |receiver| Record::PlaceReceiver(5, receiver);
+    let far = Receiver {
+        x: FARTHEST + 1 + example_receiver().x,
+        ..example_receiver()
+    };
+    let high = Receiver {
+        height: HEIGHT.most() + 1,
+        ..example_receiver()
+    };
+    let slow = Source {
+        car_speed: FAST_ABOVE,
+        surface: FAST_SURFACE,
+        ..example_source()
+    };
+    let mut busy = example_source();
+    busy.traffic[0].vehicles = VEHICLES.most() + 1;
+    let place = place_receiver().bytes().len();
+    let ask = Record::Ask(5).bytes().len();
+    [
+        writing(Record::Ask(5), ask + 1),
+        writing(Record::Ask(5), ask - 1),
+        // a slot past the last: said before that there is no room
+        writing(Record::Ask(RECEIVERS as i64), 0),
+        writing(place_receiver(), place),
+        // an x that would be the example's if only a record's bits counted
+        writing(receiver(far), place),
+        writing(receiver(high), place),
+        writing(place_source(), LONGEST + 1),
+        writing(place_source(), LONGEST - 1),
+        // a surface for faster roads, and more vehicles than there may be
+        writing(Record::PlaceSource(0, slow), LONGEST),
+        writing(Record::PlaceSource(0, busy), LONGEST),
+        writing(Record::WithdrawSource(SOURCE_SLOT.most()), ask),
+        writing(Record::WithdrawReceiver(RECEIVER_SLOT.most()), ask),
+    ]
+}
+
+/// A frame that says five bytes of a stored state and ends after two: it is not answered.
+fn broken_off() -> Vec<u8> {
+    let mut bytes = Vec::new();
+    frame(&[1; 5], &[]).put(&mut bytes);
+    bytes.truncate(4 + 2);
+    bytes
+}

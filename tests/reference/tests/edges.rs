@@ -1,0 +1,363 @@
+// Whether the cases that are tried meet every edge there is, on both sides of it: of the fields
+// in records, calls and stored states, of sums, of lengths, of distances and of share levels.
+
+use reference::book::{decode, Book, TOP};
+use reference::chance::Chance;
+use reference::fields::{widest, Field, WALL_HEIGHT, WALL_SPACING};
+use reference::fixed::{fixed_frames, fixed_jobs};
+use reference::jobs::job;
+use reference::limits::{way_of_square, FAR_STEPS, HALVES, NEAR_STEPS};
+use reference::probe::Frame;
+use reference::record::{extent, fields_of, listed_kinds, take, Record};
+use reference::road::{
+    emission, share_levels, squares, Receiver, Source, FARTHEST_SQUARE, LOUDEST, NEAREST_SQUARE,
+};
+use reference::store::{
+    receiver_at, unpack, RECEIVER_BYTES, RECEIVER_SIZE, SOURCE_BYTES, SOURCE_SIZE, STORE_SIZE, SUMS,
+};
+use reference::stores::frame;
+use reference::writing::{bits_of, fixed_writings, writing};
+use std::collections::BTreeSet;
+use std::ops::RangeInclusive;
+
+/// As many as a comparison draws.
+const SEEDS: RangeInclusive<u64> = 1..=2000;
+
+/// The kinds of records that place what has fields in the store.
+const PLACINGS: [u8; 2] = [1, 3];
+
+/// A value of a field that is to be met: the kind of record, the field's number, the value, and
+/// whether the record is to be accepted or refused for this field.
+type Edge = (u8, u16, i64, bool);
+
+/// The edges that were not met yet.
+struct Missed(BTreeSet<Edge>);
+
+/// The edges of a field of so many bits, from the table alone: the ends of what is allowed, which
+/// are to be accepted, and one step past them and the most that the bits hold, to be refused.
+fn edges_of(field: &Field, bits: u32) -> Vec<(i64, bool)> {
+    let most = widest(bits);
+    let mut edges = vec![(most, field.allows(most))];
+    for &(first, last) in field.allowed {
+        edges.extend([
+            (first, true),
+            (last, true),
+            (first - 1, false),
+            (last + 1, false),
+        ]);
+    }
+    edges.retain(|&(value, _)| (0..=most).contains(&value));
+    edges
+}
+
+/// The sizes of walls where there are none: 0 is to be accepted and 1 to be refused.
+fn edges_without_walls() -> [Edge; 4] {
+    let [height, spacing] = [WALL_HEIGHT, WALL_SPACING].map(|size| size.number);
+    let edge = |number, value| (3, number, value, value == 0);
+    [
+        edge(height, 0),
+        edge(height, 1),
+        edge(spacing, 0),
+        edge(spacing, 1),
+    ]
+}
+
+impl Missed {
+    /// All edges of records of these kinds, where every field has so many bits.
+    fn all(kinds: &[u8], bits: impl Fn(&Field) -> u32) -> Missed {
+        let mut edges = BTreeSet::from(edges_without_walls());
+        for &kind in kinds {
+            for field in fields_of(kind).unwrap() {
+                let of_field = edges_of(field, bits(field)).into_iter();
+                edges.extend(of_field.map(|(value, good)| (kind, field.number, value, good)));
+            }
+        }
+        Missed(edges)
+    }
+
+    /// All edges of stored fields; the number of a slot is not stored.
+    fn stored() -> Missed {
+        let mut edges = Missed::all(&PLACINGS, Field::stored_bits).0;
+        edges.retain(|&(_, number, ..)| number != 1);
+        Missed(edges)
+    }
+
+    /// Takes off what a record meets.
+    fn meet(&mut self, record: &Record) {
+        let judged = record.judge();
+        let fields = fields_of(record.kind()).unwrap();
+        for (field, value) in fields.iter().zip(record.values()) {
+            let good = judged.is_ok();
+            let named = judged.is_err_and(|no| (no.number, no.place) == (5, field.number));
+            if good || named {
+                self.0.remove(&(record.kind(), field.number, value, good));
+            }
+        }
+    }
+
+    /// Takes off what the records of a job meet.
+    fn meet_job(&mut self, mut job: &[u8]) {
+        while extent(job) > 0 {
+            if let Ok((record, _)) = take(job) {
+                self.meet(&record);
+            }
+            job = &job[extent(job)..];
+        }
+    }
+
+    /// Takes off what the used slots of a stored state meet.
+    fn meet_image(&mut self, image: &[u8]) {
+        if image.len() == STORE_SIZE {
+            sources_in(image).for_each(|record| self.meet(&record));
+            accounts_in(image).for_each(|(record, _)| self.meet(&record));
+        }
+    }
+
+    /// Fails if any is left, and names it.
+    fn none(&self, cases: &str) {
+        let named = |&(kind, number, value, good): &Edge| {
+            let field = fields_of(kind).unwrap()[usize::from(number) - 1];
+            let side = if good { "allowed" } else { "refused" };
+            format!("{} {value} of kind {kind}, {side}", field.name)
+        };
+        let missed: Vec<String> = self.0.iter().map(named).collect();
+        assert!(missed.is_empty(), "{cases} do not meet {missed:?}");
+    }
+}
+
+/// The sources in a stored state, whether allowed or not.
+fn sources_in(image: &[u8]) -> impl Iterator<Item = Record> + '_ {
+    let slots = image[..receiver_at(0)].chunks_exact(SOURCE_SIZE);
+    let used = (0..).zip(slots).filter(|(_, slot)| slot[0] == 1);
+    used.map(|(number, slot)| {
+        let fields = unpack(slot, &SOURCE_BYTES).map(|value| value as i64);
+        Record::PlaceSource(number, Source::of_fields(fields))
+    })
+}
+
+/// The receivers in a stored state, whether allowed or not, with their sums.
+fn accounts_in(image: &[u8]) -> impl Iterator<Item = (Record, Vec<u64>)> + '_ {
+    let slots = image[receiver_at(0)..].chunks_exact(RECEIVER_SIZE);
+    let used = (0..).zip(slots).filter(|(_, slot)| slot[0] == 1);
+    used.map(|(number, slot)| {
+        let values = unpack(slot, &RECEIVER_BYTES);
+        let fields = std::array::from_fn(|at| values[at] as i64);
+        let receiver = Receiver::of_fields(fields);
+        (
+            Record::PlaceReceiver(number, receiver),
+            values[SUMS..].to_vec(),
+        )
+    })
+}
+
+#[test]
+fn jobs_meet_every_edge_of_every_field() {
+    let mut missed = Missed::all(&listed_kinds(), |field| field.bits);
+    (1..=200).for_each(|seed| missed.meet_job(&job(seed)));
+    missed.none("jobs by chance");
+    missed = Missed::all(&listed_kinds(), |field| field.bits);
+    fixed_jobs().iter().for_each(|job| missed.meet_job(job));
+    missed.none("fixed jobs");
+}
+
+#[test]
+fn writings_meet_every_edge_of_every_field() {
+    let mut missed = Missed::all(&listed_kinds(), bits_of);
+    (1..=40_000).for_each(|seed| missed.meet(&writing(seed).record));
+    missed.none("writings by chance");
+    missed = Missed::all(&listed_kinds(), bits_of);
+    let fixed = fixed_writings();
+    fixed
+        .iter()
+        .for_each(|writing| missed.meet(&writing.record));
+    missed.none("fixed writings");
+}
+
+#[test]
+fn fixed_probes_meet_every_edge_of_every_field() {
+    let mut stored = Missed::stored();
+    let mut records = Missed::all(&listed_kinds(), |field| field.bits);
+    for frame in fixed_frames() {
+        stored.meet_image(&frame.image);
+        records.meet_job(&frame.record);
+    }
+    stored.none("fixed stored states");
+    records.none("records of fixed probes");
+}
+
+#[test]
+fn stored_states_by_chance_meet_both_sides_of_every_field() {
+    let sides = |edges: &Missed| -> BTreeSet<(u8, u16, bool)> {
+        let side = |&(kind, number, _, good): &Edge| (kind, number, good);
+        edges.0.iter().map(side).collect()
+    };
+    let all = Missed::stored();
+    let mut missed = Missed(all.0.clone());
+    SEEDS.for_each(|seed| missed.meet_image(&frame(seed).image));
+    let met = Missed(&all.0 - &missed.0);
+    assert_eq!(&sides(&all) - &sides(&met), BTreeSet::new());
+}
+
+/// Sums and lengths that probes meet.
+fn sums_and_lengths(frames: impl Iterator<Item = Frame>) -> (BTreeSet<u64>, BTreeSet<usize>) {
+    let (mut sums, mut lengths) = (BTreeSet::new(), BTreeSet::new());
+    for frame in frames {
+        lengths.insert(frame.image.len());
+        if frame.image.len() == STORE_SIZE {
+            accounts_in(&frame.image).for_each(|(_, held)| sums.extend(held));
+        }
+    }
+    (sums, lengths)
+}
+
+#[test]
+fn probes_meet_the_edges_of_sums_and_of_the_length() {
+    let top = TOP as u64;
+    let fixed = sums_and_lengths(fixed_frames().into_iter());
+    for (sums, lengths) in [fixed, sums_and_lengths(SEEDS.map(frame))] {
+        let wanted = BTreeSet::from([0, top - 1, top, top + 1, u64::MAX]);
+        assert_eq!(&wanted - &sums, BTreeSet::new());
+        let wanted = BTreeSet::from([0, STORE_SIZE - 1, STORE_SIZE, STORE_SIZE + 1]);
+        assert_eq!(&wanted - &lengths, BTreeSet::new());
+    }
+}
+
+/// The numbers nearest to a limit that were met: the greatest below it and the least from it on.
+#[derive(Clone, Copy, Debug)]
+struct Around {
+    limit: i64,
+    below: i64,
+    above: i64,
+}
+
+impl Around {
+    fn of(limit: i64) -> Around {
+        let (below, above) = (i64::MIN, i64::MAX);
+        Around {
+            limit,
+            below,
+            above,
+        }
+    }
+
+    fn meet(&mut self, number: i64) {
+        if number < self.limit {
+            self.below = self.below.max(number);
+        } else {
+            self.above = self.above.min(number);
+        }
+    }
+
+    /// How far from the limit both are.
+    fn steps(&self) -> (i64, i64) {
+        (self.below - self.limit, self.above - self.limit)
+    }
+}
+
+/// What the pairs of placings meet: squared distances, how much longer than half the distance a
+/// source is, and share levels, each around the first number that is treated otherwise.
+struct Pairs {
+    near: Around,
+    far: Around,
+    long: Around,
+    loud: Around,
+    faint: Around,
+}
+
+impl Pairs {
+    fn none() -> Pairs {
+        Pairs {
+            near: Around::of(NEAREST_SQUARE),
+            far: Around::of(FARTHEST_SQUARE + 1),
+            long: Around::of(1),
+            loud: Around::of(LOUDEST + 1),
+            faint: Around::of(0),
+        }
+    }
+
+    fn meet(&mut self, source: &Source, receiver: &Receiver) {
+        let (_, square) = squares(source, receiver);
+        let excess = 4 * source.length * source.length - square;
+        self.near.meet(square);
+        self.far.meet(square);
+        if (NEAREST_SQUARE..=FARTHEST_SQUARE).contains(&square) {
+            self.long.meet(excess);
+            if excess <= 0 {
+                let levels = share_levels(source, &emission(source), receiver);
+                levels.iter().flatten().for_each(|&level| {
+                    self.loud.meet(level);
+                    self.faint.meet(level);
+                });
+            }
+        }
+    }
+
+    /// Meets the pairs of a new entry, if it is allowed and its slot is free.
+    fn meet_record(&mut self, book: &Book, record: &Record) {
+        match record {
+            _ if record.judge().is_err() => {}
+            Record::PlaceSource(slot, source) if book.sources[*slot as usize].is_none() => {
+                let standing = book.accounts.iter().flatten();
+                standing.for_each(|account| self.meet(source, &account.receiver));
+            }
+            Record::PlaceReceiver(slot, receiver) if book.accounts[*slot as usize].is_none() => {
+                let standing = book.sources.iter().flatten();
+                standing.for_each(|source| self.meet(source, receiver));
+            }
+            _ => {}
+        }
+    }
+
+    fn meet_job(&mut self, mut job: &[u8]) {
+        let mut book = Book::cleared();
+        while extent(job) > 0 {
+            if let Ok((record, _)) = take(job) {
+                self.meet_record(&book, &record);
+                book.apply(&record);
+            }
+            job = &job[extent(job)..];
+        }
+    }
+
+    /// Holds what was met against what there is.
+    fn check(&self) {
+        assert_eq!(self.near.steps(), nearest(&NEAR_STEPS, 0));
+        assert_eq!(self.far.steps(), nearest(&FAR_STEPS, 1));
+        for around in [self.long, self.loud, self.faint] {
+            assert_eq!(around.steps(), (-1, 0), "{around:?}");
+        }
+    }
+}
+
+/// Of the steps from a limit, those on either side of a first step, seen from there.
+fn nearest(steps: &[i64], first: i64) -> (i64, i64) {
+    let mut around = Around::of(first);
+    steps.iter().for_each(|&step| around.meet(step));
+    around.steps()
+}
+
+#[test]
+fn jobs_meet_the_edges_of_distances_and_levels() {
+    let mut pairs = Pairs::none();
+    (1..=170).for_each(|seed| pairs.meet_job(&job(seed)));
+    pairs.check();
+}
+
+#[test]
+fn probes_meet_the_edges_of_distances_and_levels() {
+    let mut pairs = Pairs::none();
+    for frame in (1..=6000).map(frame) {
+        if let (Some(book), Ok((record, _))) = (decode(&frame.image), take(&frame.record)) {
+            pairs.meet_record(&book, &record);
+        }
+    }
+    pairs.check();
+}
+
+#[test]
+fn every_half_has_a_way_of_its_double() {
+    for half in HALVES {
+        let way = way_of_square(&mut Chance::new(1), 4 * half * half);
+        assert!(way.is_some(), "length {half}");
+    }
+}
