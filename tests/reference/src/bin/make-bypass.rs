@@ -1,5 +1,5 @@
 // Prints the example job: a bypass that bends around a village, cut into sixty pieces.
-// One receiver is placed too near on purpose, to show what a refusal looks like.
+// One receiver is placed so near that a piece is too long for it (refusal 12), to show what a refusal looks like.
 
 use reference::fields::HEIGHT;
 use reference::record::Record;
