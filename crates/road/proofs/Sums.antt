@@ -87,10 +87,10 @@ small-walls k h w = record { up = go (eqb k 1) (eqb k 2); down = omega arith }
     go false true = omega (arith, min-le-left 160 (200 * h / w))
     go false false = omega arith
 
--- the traffic of a period that has any
+-- the traffic of a period that has any: twice the bound is still in the range of lv
 pub record Weighed (t : Traffic) : Type 0 where
   pub some : 1 ≤ vehicles t
-  pub half : 5 * vehicles t ≤ 18446744073709
+  pub half : 5 * vehicles t ≤ 9000000000000
 
 pub weighed : (t : Traffic) → 1 ≤ t .m → t .m ≤ mostVehicles → t .p ≤ allTrucks → Weighed t
 weighed t a b d = record {
