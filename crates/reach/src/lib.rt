@@ -15,9 +15,13 @@ ghost use Rattle.level.specs.Table.{table};
 ghost use Rattle.root.specs.Root.{rootOf};
 ghost use Rattle.road.specs.declared.Verdict.the-variants.{Allowed};
 ghost use Rattle.road.specs.Term.{takes, _⊕_};
-ghost use Rattle.road.specs.Reach.{apart, square, planSquare, distanceTerm, groundTerm, weatherTerm, pairOf};
+ghost use Rattle.road.specs.Limits.{coordinate};
+ghost use Rattle.road.specs.Reach.{sourceHeight, apart, square, planSquare, distanceTerm, groundTerm, weatherTerm, pairOf};
 ghost use Rattle.road.specs.Judge.{sourceVerdict, receiverVerdict};
 ghost use Rattle.road.specs.Inner.{voicesOf, voicedPart, hearOf, Modest, Moderate};
+
+// How high above the road the source is, in cm.
+const SOURCE_HEIGHT: u16 = 50;
 
 // How far two numbers are apart.
 fn apart(a: u32, b: u32) -> u64
@@ -31,7 +35,7 @@ fn apart(a: u32, b: u32) -> u64
 
 // The squared distance in the plan.
 pub fn plan(s: Source, r: Receiver) -> u64
-    requires { ⌜ (s .x < 16777216) × (s .y < 16777216) × (r .x < 16777216) × (r .y < 16777216) ⌝ }
+    requires { ⌜ (s .x ≤ coordinate) × (s .y ≤ coordinate) × (r .x ≤ coordinate) × (r .y ≤ coordinate) ⌝ }
     ensures { λ q. ⌜ q ≡ planSquare s r ⌝ }
 {
     let dx = apart(s.x, r.x);
@@ -41,12 +45,12 @@ pub fn plan(s: Source, r: Receiver) -> u64
     across + along
 }
 
-// The squared distance in space, by that in the plan and the point's height: the source is 50 cm above the road.
+// The squared distance in space, by that in the plan and the point's height.
 pub fn space(q0: u64, height: u16) -> u64
-    requires { ⌜ (q0 ≤ 600000000000000) × (50 ≤ height) × (height ≤ 1000) ⌝ }
-    ensures { λ q. ⌜ q ≡ q0 + square (height - 50) ⌝ }
+    requires { ⌜ (q0 ≤ 600000000000000) × (sourceHeight ≤ height) × (height ≤ 1000) ⌝ }
+    ensures { λ q. ⌜ q ≡ q0 + square (height - sourceHeight) ⌝ }
 {
-    let rise = (height - 50) as u64;
+    let rise = (height - SOURCE_HEIGHT) as u64;
     let square = rise * rise;
     q0 + square
 }
@@ -162,6 +166,6 @@ pub fn pair(steps: &[u32; 1000], s: Source, voices: [Voice; 3], r: Receiver) -> 
     if q < 4 * square {
         return Pair::Barred(Bar::Long);
     }
-    let h = (r.height + 50) as u64;
+    let h = (r.height + SOURCE_HEIGHT) as u64;
     hear(steps, voices, q0, q, h)
 }

@@ -17,6 +17,7 @@ use Rattle.road.specs.declared.Verdict.{Verdict}
 use Rattle.road.specs.declared.Verdict.the-variants.{Allowed, Refused}
 use Rattle.road.specs.Term.{period}
 use Rattle.road.specs.Emission.{carSpeed, truckSpeed, carLevel, truckLevel}
+use Rattle.road.specs.Limits.{coordinate, longest, lastSurface, lastReflection, mostVehicles, allTrucks, lowestReceiver, highestReceiver}
 use Rattle.road.specs.Judge.{sourceFields, sourceLeast, sourceMost, receiverFields, receiverLeast, receiverMost, unlessOutside, slowSurface, quietTruck, sourceVerdict, receiverVerdict}
 
 -- a verdict that allows has passed each test on its way
@@ -36,17 +37,17 @@ bounded least most fields v e i h =
     inside-at least most fields i (omega arith)
 
 pub record FitTraffic (m p : ℕ) : Type 0 where
-  pub few : m ≤ 10000000
-  pub part : p ≤ 1000
+  pub few : m ≤ mostVehicles
+  pub part : p ≤ allTrucks
 
 pub record FitSource (s : Source) : Type 0 where
-  pub x : s .x ≤ 16777215
-  pub y : s .y ≤ 16777215
+  pub x : s .x ≤ coordinate
+  pub y : s .y ≤ coordinate
   pub some : 1 ≤ s .length
-  pub short : s .length ≤ 100000
+  pub short : s .length ≤ longest
   pub paved : 1 ≤ s .surface
-  pub known : s .surface ≤ 9
-  pub coded : s .reflection ≤ 4
+  pub known : s .surface ≤ lastSurface
+  pub coded : s .reflection ≤ lastReflection
   pub spaced : (s .walls ≡ 0 → ⊥) → 1 ≤ s .spacing
   pub day : FitTraffic (period s 0 .m) (period s 0 .p)
   pub evening : FitTraffic (period s 1 .m) (period s 1 .p)
@@ -75,10 +76,10 @@ fit-source s e =
     }
 
 pub record FitReceiver (r : Receiver) : Type 0 where
-  pub x : r .x ≤ 16777215
-  pub y : r .y ≤ 16777215
-  pub low : 380 ≤ r .height
-  pub high : r .height ≤ 420
+  pub x : r .x ≤ coordinate
+  pub y : r .y ≤ coordinate
+  pub low : lowestReceiver ≤ r .height
+  pub high : r .height ≤ highestReceiver
 
 pub fit-receiver : (r : Receiver) → receiverVerdict r ≡ Allowed → FitReceiver r
 unfolding receiverVerdict

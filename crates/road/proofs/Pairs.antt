@@ -25,6 +25,7 @@ use Rattle.road.specs.declared.Part.{Part}
 use Rattle.road.specs.Term.{term, _⊕_, period}
 use Rattle.road.specs.Emission.{emissionLevel}
 use Rattle.road.specs.Reach.{square, planSquare, spaceSquare, lengthTerm, distanceTerm, groundTerm, wallsTerm, weatherOf, weatherTerm, rayHeight, shareLevel, energyShare, tooLoud, shareOf, loudIn, sharesOf, pairOf}
+use Rattle.road.specs.Limits.{longest}
 use Rattle.road.specs.Inner.{silent, voiceOf, voicesOf, voicedPart, wayOf, partIn, pairBy, hearOf}
 use Rattle.road.proofs.Bounds.{times, lv-small}
 use Rattle.road.proofs.Sums.{term-eq, Small}
@@ -139,8 +140,8 @@ module _ (s : Source) (r : Receiver) where
   pair-far h = rw (le-ltb (spaceSquare s r) 250000 (omega arith), lt-ltb 40000000000 (spaceSquare s r) h, pairOf)
 
   -- a pair that is too far is neither too near nor, with a length that is allowed, too long: between these rows no order shows
-  pub far-alone : s .length ≤ 100000 → 40000000000 < spaceSquare s r → (250000 ≤ spaceSquare s r) × (4 * square (s .length) ≤ spaceSquare s r)
-  far-alone l h = (omega arith, omega (arith, times (s .length) (s .length) 100000 100000 l l))
+  pub far-alone : s .length ≤ longest → 40000000000 < spaceSquare s r → (250000 ≤ spaceSquare s r) × (4 * square (s .length) ≤ spaceSquare s r)
+  far-alone l h = (omega arith, omega (arith, times (s .length) (s .length) longest longest l l))
 
   pub pair-long : 250000 ≤ spaceSquare s r → spaceSquare s r ≤ 40000000000 → spaceSquare s r < 4 * square (s .length) → pairOf s r ≡ Barred Long
   unfolding pairOf

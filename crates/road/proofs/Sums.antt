@@ -18,8 +18,9 @@ use Rattle.road.specs.declared.Voice.{Voice}
 use Rattle.road.specs.declared.emission.Pace.{Pace}
 use Rattle.road.specs.declared.Part.{Part}
 use Rattle.road.specs.Term.{term, adds, takes, _⊕_, period}
-use Rattle.road.specs.Emission.{vehicles, trafficTerm, carSpeed, truckSpeed, carLevel, truckLevel, truckGain, speedTerm, surfaceTable, surfaceColumn, surfaceEntry, surfaceTerm, gradientTerm, reflectionTerm, emissionLevel}
+use Rattle.road.specs.Emission.{vehicles, trafficTerm, carSpeed, truckSpeed, carLevel, truckLevel, truckGain, speedTerm, surfaceTable, surfaceColumn, surfaceEntry, surfaceTerm, gradientTerm, reflectionTable, reflectionTerm, emissionLevel}
 use Rattle.road.specs.Reach.{lengthTerm, distanceTerm, groundTerm, wallsTerm, weatherTerm, energyShare, tooLoud}
+use Rattle.road.specs.Limits.{mostVehicles, allTrucks}
 use Rattle.road.specs.Judge.{sourceVerdict}
 use Rattle.road.specs.Inner.{paceOf, speedBy, steadyTerm, silent, voiceBy, voiceOf, voicesOf, voicedPart, Modest, Moderate}
 use Rattle.road.proofs.Bounds.{times, lv-small, car-most, gain-small, gain-energy}
@@ -59,11 +60,11 @@ small-cond : (n : ℕ) (b : Bool) (s t : Term) → Small n s → Small n t → S
 small-cond n true s t p q = p
 small-cond n false s t p q = q
 
-pub small-surface : (k v : ℕ) → Small 600 (surfaceTerm k v)
+pub small-surface : (k v : ℕ) → Small 2000 (surfaceTerm k v)
 unfolding surfaceTerm
 small-surface k v =
-    let e : surfaceEntry k v ≤ 600 = table-below 600 surfaceTable tt (k - 1) (surfaceColumn v) in
-    small-cond 600 (leb k 5) _ _ (record { up = e; down = omega arith }) (record { up = omega arith; down = e })
+    let e : surfaceEntry k v ≤ 2000 = table-below 2000 surfaceTable tt (k - 1) (surfaceColumn v) in
+    small-cond 2000 (leb k 5) _ _ (record { up = e; down = omega arith }) (record { up = omega arith; down = e })
 
 pub small-gradient : (g : ℕ) → Small 600 (gradientTerm g)
 unfolding gradientTerm
@@ -73,9 +74,9 @@ small-gradient g = record { up = go (ltb 50 (g % 128)); down = omega arith }
     go true = omega arith
     go false = omega arith
 
-pub small-reflection : (code : ℕ) → Small 800 (reflectionTerm code)
+pub small-reflection : (code : ℕ) → Small 2000 (reflectionTerm code)
 unfolding reflectionTerm
-small-reflection code = record { up = omega arith; down = entry-below 800 (0 ∷ 100 ∷ 200 ∷ 400 ∷ 800 ∷ []) tt code }
+small-reflection code = record { up = omega arith; down = entry-below 2000 reflectionTable tt code }
 
 pub small-walls : (k h w : ℕ) → Small 320 (wallsTerm k h w)
 unfolding wallsTerm
@@ -86,15 +87,15 @@ small-walls k h w = record { up = go (eqb k 1) (eqb k 2); down = omega arith }
     go false true = omega (arith, min-le-left 160 (200 * h / w))
     go false false = omega arith
 
--- the traffic of a period that has any
+-- the traffic of a period that has any: twice the bound is still in the range of lv
 pub record Weighed (t : Traffic) : Type 0 where
   pub some : 1 ≤ vehicles t
-  pub half : 5 * vehicles t ≤ 4600000000000
+  pub half : 5 * vehicles t ≤ 9000000000000
 
-pub weighed : (t : Traffic) → 1 ≤ t .m → t .m ≤ 10000000 → t .p ≤ 1000 → Weighed t
+pub weighed : (t : Traffic) → 1 ≤ t .m → t .m ≤ mostVehicles → t .p ≤ allTrucks → Weighed t
 weighed t a b d = record {
   some = times 1 1 (t .m) (10000 + 82 * t .p) a (omega arith);
-  half = omega (arith, times (t .m) (10000 + 82 * t .p) 10000000 92000 b (omega arith));
+  half = omega (arith, times (t .m) (10000 + 82 * t .p) mostVehicles (10000 + 82 * allTrucks) b (omega arith));
 }
 
 pub small-traffic : (lanes : ℕ) (t : Traffic) → Weighed t → Small 20000 (trafficTerm lanes t)
@@ -108,9 +109,9 @@ pub record Paced (p : Pace) : Type 0 where
   pub car : p .car ≤ 20000
   pub gain : p .gain < 1000000000
 
-pub small-speed : (pace : Pace) (p : ℕ) → Paced pace → p ≤ 1000 → Small 40000 (speedBy pace p)
+pub small-speed : (pace : Pace) (p : ℕ) → Paced pace → p ≤ allTrucks → Small 40000 (speedBy pace p)
 small-speed pace p h l =
-    let g : pace .gain * p ≤ 1000000000 * 1000 = times (pace .gain) p 1000000000 1000 (omega (arith, h .gain)) l in
+    let g : pace .gain * p ≤ 1000000000 * allTrucks = times (pace .gain) p 1000000000 allTrucks (omega (arith, h .gain)) l in
     record {
       up = omega (arith, h .car, lv-small (1000000000 + pace .gain * p) (omega arith) (omega arith));
       down = omega (arith, lv-small (100000 + 823 * p) (omega arith) (omega arith));

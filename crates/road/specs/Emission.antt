@@ -78,8 +78,12 @@ gradientTerm g = adds (cond (ltb 50 (steepness g)) (6 * steepness g - 300) 0)
 
 -- ---- section 3.11, table 7: reflection
 
+-- what is taken off, by the code
+abbrev pub reflectionTable : List ℕ
+reflectionTable = 0 ∷ 100 ∷ 200 ∷ 400 ∷ 800 ∷ []
+
 unfoldable pub reflectionTerm : ℕ → Term
-reflectionTerm code = takes (getD (0 ∷ 100 ∷ 200 ∷ 400 ∷ 800 ∷ []) code 0)
+reflectionTerm code = takes (getD reflectionTable code 0)
 
 -- ---- section 3.5, equation 7: the emission level in the period i
 

@@ -14,6 +14,7 @@ use Rattle.road.specs.declared.Verdict.{Verdict}
 use Rattle.road.specs.declared.Verdict.the-variants.{Allowed, Refused}
 use Rattle.road.specs.Term.{period}
 use Rattle.road.specs.Emission.{carSpeed, truckSpeed, carLevel, truckLevel}
+use Rattle.road.specs.Limits.{coordinate, longest, fastest, steepest, lastSurface, lastReflection, highestWall, widestSpacing, mostVehicles, allTrucks, lowestReceiver, highestReceiver}
 
 -- ---- the fields in order, from field 2 on
 
@@ -25,13 +26,9 @@ sourceFields s =
 abbrev pub receiverFields : Receiver → List ℕ
 receiverFields r = r .x ∷ r .y ∷ r .height ∷ []
 
--- ---- their limits
+-- ---- their limits, by the numbers of Limits.antt
 
--- the largest number of 24 bits
-abbrev pub coordinate : ℕ
-coordinate = 16777215
-
--- a gradient is 0 to 120 up, or 1 to 120 down with 128 for the sign: there is no minus zero.
+-- a gradient is 0 or more up, or 1 or more down with 128 for the sign: there is no minus zero.
 -- Walls that are not there have neither height nor spacing.
 abbrev pub sourceLeast : Source → List ℕ
 sourceLeast s =
@@ -40,15 +37,16 @@ sourceLeast s =
 
 abbrev pub sourceMost : Source → List ℕ
 sourceMost s =
-    coordinate ∷ coordinate ∷ 100000 ∷ 1 ∷ 250 ∷ 250 ∷ 9 ∷ cond (ltb (s .gradient) 128) 120 248 ∷ 4 ∷ 3
-    ∷ cond (eqb (s .walls) 0) 0 4000 ∷ cond (eqb (s .walls) 0) 0 16383
-    ∷ 10000000 ∷ 1000 ∷ 10000000 ∷ 1000 ∷ 10000000 ∷ 1000 ∷ []
+    coordinate ∷ coordinate ∷ longest ∷ 1 ∷ fastest ∷ fastest ∷ lastSurface
+    ∷ cond (ltb (s .gradient) 128) steepest (128 + steepest) ∷ lastReflection ∷ 3
+    ∷ cond (eqb (s .walls) 0) 0 highestWall ∷ cond (eqb (s .walls) 0) 0 widestSpacing
+    ∷ mostVehicles ∷ allTrucks ∷ mostVehicles ∷ allTrucks ∷ mostVehicles ∷ allTrucks ∷ []
 
 abbrev pub receiverLeast : List ℕ
-receiverLeast = 0 ∷ 0 ∷ 380 ∷ []
+receiverLeast = 0 ∷ 0 ∷ lowestReceiver ∷ []
 
 abbrev pub receiverMost : List ℕ
-receiverMost = coordinate ∷ coordinate ∷ 420 ∷ []
+receiverMost = coordinate ∷ coordinate ∷ highestReceiver ∷ []
 
 -- ---- the verdict
 

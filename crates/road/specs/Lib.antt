@@ -1,5 +1,6 @@
 pub mod Term
 pub mod Emission
+pub mod Limits
 pub mod Reach
 pub mod Judge
 pub mod Figures

@@ -20,7 +20,11 @@ use Rattle.road.specs.declared.Pair.the-variants.{Heard, Barred}
 use Rattle.road.specs.Term.{term, adds, takes, _⊕_, period}
 use Rattle.road.specs.Emission.{emissionLevel}
 
--- ---- the squared distances: in the plan, Q0, and in space, Q; the source is 50 cm above the road
+-- ---- the squared distances: in the plan, Q0, and in space, Q
+
+-- how high above the road the source is
+abbrev pub sourceHeight : ℕ
+sourceHeight = 50
 
 abbrev pub apart : ℕ → ℕ → ℕ
 apart a b = (a - b) + (b - a)
@@ -32,7 +36,7 @@ unfoldable pub planSquare : Source → Receiver → ℕ
 planSquare s r = square (apart (s .x) (r .x)) + square (apart (s .y) (r .y))
 
 unfoldable pub spaceSquare : Source → Receiver → ℕ
-spaceSquare s r = planSquare s r + square (r .height - 50)
+spaceSquare s r = planSquare s r + square (r .height - sourceHeight)
 
 -- ---- section 3.4: the length of the piece
 
@@ -68,7 +72,7 @@ weatherTerm c h r0 = takes (cond (leb r0 (10 * h)) 0 (c * (r0 - 10 * h) / r0))
 -- ---- section 3.4, equation 6: the share level in the period i
 
 abbrev pub rayHeight : Receiver → ℕ
-rayHeight r = r .height + 50
+rayHeight r = r .height + sourceHeight
 
 unfoldable pub shareLevel : Source → Receiver → ℕ → Term
 shareLevel s r i =

@@ -12,11 +12,17 @@ ghost use Rattle.road.specs.declared.Verdict.the-variants.{Allowed};
 ghost use Rattle.road.specs.Term.{_⊕_};
 ghost use Rattle.road.specs.Emission.{trafficTerm, carSpeed, truckSpeed, carLevel, truckLevel, truckGain, speedTerm, surfaceColumn, surfaceTerm, gradientTerm, reflectionTerm};
 ghost use Rattle.road.specs.Reach.{lengthTerm, wallsTerm};
+ghost use Rattle.road.specs.Limits.{lastSurface, lastReflection, mostVehicles, allTrucks};
 ghost use Rattle.road.specs.Judge.{sourceVerdict};
 ghost use Rattle.road.specs.Inner.{paceOf, speedBy, steadyTerm, voiceBy, voicesOf};
 
+// How many surfaces and how many codes of reflection there are.
+pub const SURFACES: usize = 9;
+
+pub const REFLECTIONS: usize = 5;
+
 // Table 3: hundredths of a dB by surface, for speeds below 40, from 40 on and from 50 on.
-const SURFACE: [[u32; 3]; 9] = [
+const SURFACE: [[u32; 3]; SURFACES] = [
     [0, 0, 0],
     [100, 150, 200],
     [200, 250, 300],
@@ -29,7 +35,7 @@ const SURFACE: [[u32; 3]; 9] = [
 ];
 
 // Table 7: what a reflection takes off, by its code.
-const REFLECTION: [u32; 5] = [0, 100, 200, 400, 800];
+const REFLECTION: [u32; REFLECTIONS] = [0, 100, 200, 400, 800];
 
 // A number brought into a range.
 pub fn within(low: u64, high: u64, v: u64) -> u64
@@ -47,7 +53,7 @@ pub fn within(low: u64, high: u64, v: u64) -> u64
 
 // Equation 8: the level at 25 m, of all the traffic or of half of it.
 pub fn traffic(steps: &[u32; 1000], lanes: u8, t: Traffic) -> Term
-    requires { ⌜ (now steps ≡ table) × (1 ≤ t .m) × (t .m ≤ 10000000) × (t .p ≤ 1000) ⌝ }
+    requires { ⌜ (now steps ≡ table) × (1 ≤ t .m) × (t .m ≤ mostVehicles) × (t .p ≤ allTrucks) ⌝ }
     ensures { λ r. ⌜ r ≡ trafficTerm lanes t ⌝ }
 {
     let weight = 10000 + 82 * (t.p as u64);
@@ -109,7 +115,7 @@ pub fn pace_of(steps: &[u32; 1000], s: Source) -> Pace
 
 // Equation 9: speed.
 pub fn speed(steps: &[u32; 1000], pace: Pace, p: u16) -> Term
-    requires { ⌜ (now steps ≡ table) × (pace .car ≤ 20000) × (pace .gain < 1000000000) × (p ≤ 1000) ⌝ }
+    requires { ⌜ (now steps ≡ table) × (pace .car ≤ 20000) × (pace .gain < 1000000000) × (p ≤ allTrucks) ⌝ }
     ensures { λ r. ⌜ r ≡ speedBy pace p ⌝ }
 {
     let trucks = p as u64;
@@ -134,7 +140,7 @@ fn column(v: u64) -> usize
 
 // Table 3: surface.
 fn surface(kind: u8, v: u64) -> Term
-    requires { ⌜ (1 ≤ kind) × (kind ≤ 9) ⌝ }
+    requires { ⌜ (1 ≤ kind) × (kind ≤ lastSurface) ⌝ }
     ensures { λ r. ⌜ r ≡ surfaceTerm kind v ⌝ }
 {
     let row = SURFACE[(kind - 1) as usize];
@@ -159,7 +165,7 @@ pub fn gradient(g: u8) -> u32
 
 // Table 7: reflection.
 fn reflection(code: u8) -> u32
-    requires { ⌜ code < 5 ⌝ }
+    requires { ⌜ code ≤ lastReflection ⌝ }
     ensures { λ r. ⌜ r ≡ reflectionTerm code .down ⌝ }
 {
     REFLECTION[code as usize]
@@ -207,7 +213,7 @@ fn steady_of(steps: &[u32; 1000], s: Source) -> Term
 
 // What a source sends out in one period.
 fn voice(steps: &[u32; 1000], lanes: u8, pace: Pace, steady: Term, t: Traffic) -> Voice
-    requires { ⌜ (now steps ≡ table) × (pace .car ≤ 20000) × (pace .gain < 1000000000) × (t .m ≤ 10000000) × (t .p ≤ 1000) ⌝ }
+    requires { ⌜ (now steps ≡ table) × (pace .car ≤ 20000) × (pace .gain < 1000000000) × (t .m ≤ mostVehicles) × (t .p ≤ allTrucks) ⌝ }
     requires { ⌜ (steady .up ≤ 20000) × (steady .down ≤ 20000) ⌝ }
     ensures { λ r. ⌜ r ≡ voiceBy lanes pace steady t ⌝ }
 {

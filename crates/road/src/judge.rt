@@ -4,6 +4,7 @@ use crate::Receiver;
 use crate::Source;
 use crate::Verdict;
 use crate::emission;
+use crate::limits;
 use answer::Refusal;
 ghost use mathlib.Core.Path.{_≡_};
 ghost use mathlib.Core.Bool.{cond};
@@ -85,29 +86,29 @@ fn source_least(s: Source) -> [u64; 18]
 fn source_most(s: Source) -> [u64; 18]
     ensures { λ r. ⌜ r ≡ sourceMost s ⌝ }
 {
-    let truck = 250;
-    let gradient = either(s.gradient < 128, 120, 248);
-    let height = either(s.walls == 0, 0, 4000);
-    let spacing = either(s.walls == 0, 0, 16383);
+    let truck = limits::FASTEST;
+    let gradient = either(s.gradient < 128, limits::STEEPEST, limits::STEEPEST_FALL);
+    let height = either(s.walls == 0, 0, limits::HIGHEST_WALL);
+    let spacing = either(s.walls == 0, 0, limits::WIDEST_SPACING);
     [
-        16777215,
-        16777215,
-        100000,
+        limits::COORDINATE,
+        limits::COORDINATE,
+        limits::LONGEST,
         1,
-        250,
+        limits::FASTEST,
         truck,
-        9,
+        limits::LAST_SURFACE,
         gradient,
-        4,
+        limits::LAST_REFLECTION,
         3,
         height,
         spacing,
-        10000000,
-        1000,
-        10000000,
-        1000,
-        10000000,
-        1000,
+        limits::MOST_VEHICLES,
+        limits::ALL_TRUCKS,
+        limits::MOST_VEHICLES,
+        limits::ALL_TRUCKS,
+        limits::MOST_VEHICLES,
+        limits::ALL_TRUCKS,
     ]
 }
 
@@ -156,8 +157,12 @@ pub fn judge_receiver(r: Receiver) -> Verdict
     ensures { λ v. ⌜ v ≡ receiverVerdict r ⌝ }
 {
     let fields = [r.x as u64, r.y as u64, r.height as u64];
-    let least = [0u64, 0, 380];
-    let most = [16777215u64, 16777215, 420];
+    let least = [0, 0, limits::LOWEST_RECEIVER];
+    let most = [
+        limits::COORDINATE,
+        limits::COORDINATE,
+        limits::HIGHEST_RECEIVER,
+    ];
     let at = layout::first_outside(&least, &most, &fields);
     if at < 3 {
         return outside(at);

@@ -2,6 +2,7 @@
 // Each term of the method is a definition of its own in specs/, those of the crate reach too; the code gives exactly their values.
 pub mod emission;
 pub mod judge;
+pub mod limits;
 
 use answer::Refusal;
 

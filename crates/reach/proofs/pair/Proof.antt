@@ -4,7 +4,8 @@ use Prim.Native.Nat.{ℕ, _+_, _-_, _*_, _/_, _≤_, _<_}
 use native.Mathlib.Omega.{arith}
 use borrow.Author.Needs.{needs}
 use Rattle.road.specs.declared.Voice.{Voice}
-use Rattle.road.specs.Reach.{square, planSquare, spaceSquare, rayHeight}
+use Rattle.road.specs.Limits.{coordinate, longest, highestReceiver}
+use Rattle.road.specs.Reach.{sourceHeight, square, planSquare, spaceSquare, rayHeight}
 use Rattle.road.specs.Inner.{voicesOf, hearOf, Moderate}
 use Rattle.road.proofs.Bounds.{times}
 use Rattle.road.proofs.Fit.{FitSource, FitReceiver, fit-source, fit-receiver}
@@ -24,9 +25,9 @@ receiver c = fit-receiver (c .args .r) (c .pre .3)
 plan-requires : tie.Need-plan-requires
 plan-requires c κs = let s = source c in let r = receiver c in (omega (arith, s .x), omega (arith, s .y), omega (arith, r .x), omega (arith, r .y))
 
--- the rise is up to 370, and its square up to 136900; the squares of coordinates are below 2^49
-rise : (c : tie.Start) → square (c .args .r .height - 50) ≤ 136900
-rise c = times (c .args .r .height - 50) (c .args .r .height - 50) 370 370 (omega (arith, receiver c .high)) (omega (arith, receiver c .high))
+-- the rise is up to that of the highest point, and the squares of coordinates are below 2^49
+rise : (c : tie.Start) → square (c .args .r .height - sourceHeight) ≤ square (highestReceiver - sourceHeight)
+rise c = times (c .args .r .height - sourceHeight) (c .args .r .height - sourceHeight) (highestReceiver - sourceHeight) (highestReceiver - sourceHeight) (omega (arith, receiver c .high)) (omega (arith, receiver c .high))
 
 plan-small : (c : tie.Start) → planSquare (c .args .s) (c .args .r) ≤ 600000000000000
 unfolding planSquare
@@ -36,8 +37,8 @@ plan-small c =
     let a = c .args in
     let x : ℕ = (a .s .x - a .r .x) + (a .r .x - a .s .x) in
     let y : ℕ = (a .s .y - a .r .y) + (a .r .y - a .s .y) in
-    let p : x * x ≤ 16777216 * 16777216 = times x x 16777216 16777216 (omega (arith, s .x, r .x)) (omega (arith, s .x, r .x)) in
-    let q : y * y ≤ 16777216 * 16777216 = times y y 16777216 16777216 (omega (arith, s .y, r .y)) (omega (arith, s .y, r .y)) in
+    let p : x * x ≤ square coordinate = times x x coordinate coordinate (omega (arith, s .x, r .x)) (omega (arith, s .x, r .x)) in
+    let q : y * y ≤ square coordinate = times y y coordinate coordinate (omega (arith, s .y, r .y)) (omega (arith, s .y, r .y)) in
     omega arith
 
 space-requires : tie.Need-space-requires
@@ -51,7 +52,7 @@ begun c = c .before .before
 
 space : (c : tie.After-space) → c .space .result ≡ spaceSquare (begun c .args .s) (begun c .args .r)
 unfolding spaceSquare
-space c = c .space .ensures ∙ ap (λ (n : ℕ). n + square (begun c .args .r .height - 50)) (c .before .plan .ensures)
+space c = c .space .ensures ∙ ap (λ (n : ℕ). n + square (begun c .args .r .height - sourceHeight)) (c .before .plan .ensures)
 
 returns : tie.Need-returns
 returns c =
@@ -68,8 +69,8 @@ returns-2 c =
 cast-long : tie.Need-cast-long
 cast-long c = search needs
 
-long : (c : tie.Start) → square (c .args .s .length) ≤ 10000000000
-long c = times (c .args .s .length) (c .args .s .length) 100000 100000 (source c .short) (source c .short)
+long : (c : tie.Start) → square (c .args .s .length) ≤ square longest
+long c = times (c .args .s .length) (c .args .s .length) longest longest (source c .short) (source c .short)
 
 mul-square : tie.Need-mul-square
 mul-square c = omega (arith, long (c .before .before .before .before .before))

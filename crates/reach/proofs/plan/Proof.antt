@@ -3,14 +3,15 @@ use mathlib.Core.Path.{_≡_, refl, sym, ap, ap₂, _∙_}
 use Prim.Native.Nat.{ℕ, _+_, _-_, _*_, _/_, _≤_, _<_}
 use native.Mathlib.Omega.{arith}
 use borrow.Author.Needs.{needs}
+use Rattle.road.specs.Limits.{coordinate}
 use Rattle.road.specs.Reach.{apart, planSquare}
 use Rattle.road.proofs.Bounds.{times}
 use Rattle.reach.proofs.plan.Statement.{statement}
 use Rattle.reach.proofs.plan.Tie as tie
 
--- two coordinates of 24 bits are less than 2^24 apart, and the square of that is less than 2^48
-near : (a b d : ℕ) → a < 16777216 → b < 16777216 → d ≡ apart a b → d * d ≤ 16777216 * 16777216
-near a b d h l e = times d d 16777216 16777216 (omega arith) (omega arith)
+-- two coordinates are no farther apart than the largest is from 0
+near : (a b d : ℕ) → a ≤ coordinate → b ≤ coordinate → d ≡ apart a b → d * d ≤ coordinate * coordinate
+near a b d h l e = times d d coordinate coordinate (omega arith) (omega arith)
 
 apart-requires : tie.Need-apart-requires
 apart-requires c κs = search needs

@@ -3,6 +3,7 @@
 use native.Mathlib.Omega.{arith}
 use borrow.Author.Needs.{needs}
 use Prim.Native.Nat.{_-_}
+use Rattle.road.specs.Reach.{sourceHeight}
 use Rattle.road.proofs.Bounds.{times}
 use Rattle.reach.proofs.space.Statement.{statement}
 use Rattle.reach.proofs.space.Tie as tie
@@ -14,10 +15,10 @@ cast-rise : tie.Need-cast-rise
 cast-rise c = search needs
 
 mul-square : tie.Need-mul-square
-mul-square c = omega (arith, times (c .args .height - 50) (c .args .height - 50) 1000 1000 (omega arith) (omega arith))
+mul-square c = omega (arith, times (c .args .height - sourceHeight) (c .args .height - sourceHeight) 1000 1000 (omega arith) (omega arith))
 
 add-result : tie.Need-add-result
-add-result c = omega (arith, times (c .args .height - 50) (c .args .height - 50) 1000 1000 (omega arith) (omega arith))
+add-result c = omega (arith, times (c .args .height - sourceHeight) (c .args .height - sourceHeight) 1000 1000 (omega arith) (omega arith))
 
 returns : tie.Need-returns
 returns c = search needs

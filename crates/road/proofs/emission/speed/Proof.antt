@@ -4,13 +4,14 @@ use Prim.Native.Nat.{ℕ, _+_, _-_, _*_, _/_, _≤_, _<_}
 use native.Mathlib.Omega.{arith}
 use borrow.Author.Needs.{needs}
 use Rattle.road.specs.Term.{term}
+use Rattle.road.specs.Limits.{allTrucks}
 use Rattle.road.proofs.Bounds.{times, lv-small}
 use Rattle.road.proofs.emission.speed.Statement.{statement}
 use Rattle.road.proofs.emission.speed.Tie as tie
 
 -- the trucks' part of the energy
-part : (gain p : ℕ) → gain < 1000000000 → p ≤ 1000 → gain * p ≤ 1000000000000
-part gain p h l = times gain p 1000000000 1000 (omega arith) l
+part : (gain p : ℕ) → gain < 1000000000 → p ≤ allTrucks → gain * p ≤ 1000000000 * allTrucks
+part gain p h l = times gain p 1000000000 allTrucks (omega arith) l
 
 mul-more : tie.Need-mul-more
 mul-more c =

@@ -31,12 +31,12 @@ gradient-requires c κs = search needs
 on-is : (c : tie.After-surface) → c .surface .result ≡ surfaceTerm (c .before .before .before .args .s .surface) (carSpeed (c .before .before .before .args .s .car))
 on-is c = c .surface .ensures ∙ ap (surfaceTerm (c .before .before .before .args .s .surface)) (c .before .within .ensures)
 
-on-up : (c : tie.After-surface) → c .surface .result .up ≤ 600
+on-up : (c : tie.After-surface) → c .surface .result .up ≤ 2000
 on-up c =
     let s = c .before .before .before .args .s in
     omega (arith, ap (λ (t : Term). t .up) (on-is c), small-surface (s .surface) (carSpeed (s .car)) .up)
 
-on-down : (c : tie.After-surface) → c .surface .result .down ≤ 600
+on-down : (c : tie.After-surface) → c .surface .result .down ≤ 2000
 on-down c =
     let s = c .before .before .before .args .s in
     omega (arith, ap (λ (t : Term). t .down) (on-is c), small-surface (s .surface) (carSpeed (s .car)) .down)

@@ -1,0 +1,35 @@
+// The limits of the fields, each named once, as in specs/Limits.antt. Lengths are in cm.
+// The codes of surfaces and of reflections go as far as the tables of emission.rt.
+use crate::emission;
+
+// The largest number of 24 bits.
+pub const COORDINATE: u64 = 16777215;
+
+pub const LONGEST: u64 = 100000;
+
+// Of cars and of trucks, as they are written.
+pub const FASTEST: u64 = 250;
+
+// In tenths of a percent.
+pub const STEEPEST: u64 = 120;
+
+pub const STEEPEST_FALL: u64 = 128 + STEEPEST;
+
+pub const LAST_SURFACE: u64 = emission::SURFACES as u64;
+
+pub const LAST_REFLECTION: u64 = emission::REFLECTIONS as u64 - 1;
+
+pub const HIGHEST_WALL: u64 = 4000;
+
+// The largest number of 14 bits.
+pub const WIDEST_SPACING: u64 = 16383;
+
+// M, in thousandths of a vehicle an hour.
+pub const MOST_VEHICLES: u64 = 10000000;
+
+// p, in tenths of a percent: all of them are trucks.
+pub const ALL_TRUCKS: u64 = 1000;
+
+pub const LOWEST_RECEIVER: u64 = 380;
+
+pub const HIGHEST_RECEIVER: u64 = 420;
