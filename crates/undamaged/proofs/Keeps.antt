@@ -12,10 +12,10 @@ use Rattle.road.specs.declared.Receiver.{Receiver}
 use Rattle.road.specs.declared.Verdict.{Verdict}
 use Rattle.road.specs.declared.Verdict.the-variants.{Allowed, Refused as Barring}
 use Rattle.road.specs.Reach.{sharesOf, pairOf}
-use Rattle.road.specs.Judge.{sourceVerdict, receiverVerdict, slotVerdict, lastSource, lastReceiver}
+use Rattle.road.specs.Judge.{sourceVerdict, receiverVerdict, slotVerdict}
 use Rattle.store.specs.declared.Held.{Held}
 use Rattle.store.specs.Slots.{Each}
-use Rattle.store.specs.Store.{Book, book, damaged, bookOf, SourceStands, HeldStands, SoundBook}
+use Rattle.store.specs.Store.{lastSource, lastReceiver, Book, book, damaged, bookOf, SourceStands, HeldStands, SoundBook}
 use Rattle.store.proofs.Laws.{sound-book, book-bytes, sound-source, sound-held}
 use Rattle.undamaged.specs.declared.Answer.{Answer}
 use Rattle.ledger.specs.Lists.{omap, present, every, firstBar, weigh}
