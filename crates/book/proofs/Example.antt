@@ -22,12 +22,12 @@ use Rattle.road.specs.declared.Verdict.{Verdict}
 use Rattle.road.specs.declared.Verdict.the-variants.{Allowed}
 use Rattle.road.specs.Emission.{carLevel, truckLevel}
 use Rattle.road.specs.Reach.{planSquare, spaceSquare, shareLevel, energyShare, tooLoud, shareOf, loudIn, pairOf}
-use Rattle.road.specs.Judge.{sourceVerdict, receiverVerdict, slotVerdict, lastSource}
+use Rattle.road.specs.Judge.{sourceVerdict, receiverVerdict, slotVerdict}
 use Rattle.road.specs.Figures.{road, home, roads, figures}
 use Rattle.road.proofs.Figures.{figures-right}
 use Rattle.index.specs.Index.{ldenOf, lnightOf}
 use Rattle.index.specs.declared.Index.the-variants.{Quiet, Tenths}
-use Rattle.store.specs.Store.{sourceSlots, receiverSlots}
+use Rattle.store.specs.Store.{lastSource, lastReceiver, sourceSlots, receiverSlots}
 use Rattle.undamaged.specs.declared.Answer.{Answer}
 use Rattle.undamaged.specs.declared.Answer.the-variants.{Levels, Refused}
 use Rattle.ledger.specs.Lists.{present}
@@ -135,7 +135,7 @@ abbrev withdrawn : List Call
 withdrawn = WithdrawSource 0 ∷ PlaceSource 0 far ∷ Ask 5 ∷ placed
 
 abbrev elsewhere : List Placing
-elsewhere = receiver record { slot = 63; entry = home } ∷ source record { slot = 511; entry = near } ∷ []
+elsewhere = receiver record { slot = lastReceiver; entry = home } ∷ source record { slot = lastSource; entry = near } ∷ []
 
 at-used : (x : Step) (v : Verdict) (o : Option Source) (t : Source) → v ≡ Allowed → o ≡ some t → allow v (intoFree o x) ≡ refuse Taken
 at-used x v o t p q = rw (p, q)
@@ -220,7 +220,7 @@ module _ (laws : StoreLaws) where
         receiver-slots = (omega arith, tt, tt);
       }
 
-  pub asked-elsewhere : answerTo (calls elsewhere) (Ask 63) ≡ Levels (Tenths 616) (Tenths 503)
+  pub asked-elsewhere : answerTo (calls elsewhere) (Ask lastReceiver) ≡ Levels (Tenths 616) (Tenths 503)
   unfolding receiverSlots
   asked-elsewhere =
       rebuilt laws placed (refl, (tt, tt)) elsewhere elsewhere-rebuilds .same-levels _ 5 (List·Memᴰ·head refl) (omega arith) placed-seat ∙ asked
@@ -236,5 +236,5 @@ placed-twice = taken store-laws
 pub withdrawn-then-asked : answerTo withdrawn (Ask 5) ≡ Levels Quiet Quiet
 withdrawn-then-asked = asked-again store-laws
 
-pub rebuilt-then-asked : answerTo (calls elsewhere) (Ask 63) ≡ Levels (Tenths 616) (Tenths 503)
+pub rebuilt-then-asked : answerTo (calls elsewhere) (Ask lastReceiver) ≡ Levels (Tenths 616) (Tenths 503)
 rebuilt-then-asked = asked-elsewhere store-laws

@@ -12,10 +12,10 @@ use Rattle.road.specs.declared.Receiver.{Receiver}
 use Rattle.road.specs.declared.Pair.{Pair}
 use Rattle.road.specs.declared.Verdict.the-variants.{Allowed}
 use Rattle.road.specs.Reach.{sharesOf, pairOf}
-use Rattle.road.specs.Judge.{sourceVerdict, receiverVerdict, slotVerdict, lastSource, lastReceiver}
+use Rattle.road.specs.Judge.{sourceVerdict, receiverVerdict, slotVerdict}
 use Rattle.store.specs.declared.Held.{Held}
 use Rattle.store.specs.Account.{soundB, covers}
-use Rattle.store.specs.Store.{Book, book, sourceSlots, receiverSlots, SourceStands, HeldStands, SoundBook}
+use Rattle.store.specs.Store.{lastSource, lastReceiver, Book, book, sourceSlots, receiverSlots, SourceStands, HeldStands, SoundBook}
 use Rattle.undamaged.specs.declared.Answer.{Answer}
 use Rattle.ledger.specs.Lists.{omap, present, every, firstBar, weigh, All}
 use Rattle.undamaged.specs.Calls.{used, Step, tell, allow, fromUsed, more, less, hasRoom, canReturn}
