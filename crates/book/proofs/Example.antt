@@ -32,7 +32,7 @@ use Rattle.undamaged.specs.declared.Answer.{Answer}
 use Rattle.undamaged.specs.declared.Answer.the-variants.{Levels, Refused}
 use Rattle.ledger.specs.Lists.{present}
 use Rattle.undamaged.specs.Calls.{Step, isHeard, refuse, allow, intoFree, told, placeSource}
-use Rattle.undamaged.proofs.Sums.{lanes-are}
+use Rattle.store.proofs.Laws.{many-sources}
 use Rattle.book.specs.History.{standingReceivers, Placing, source, receiver, calls, Rebuilds, Call, PlaceSource, WithdrawSource, PlaceReceiver}
 use Rattle.book.specs.History.{Ask, storeAfter, bookAfter, answerTo, Real, accepted, kept, lastAt, row, standingSource, standingReceiver}
 use Rattle.book.specs.History.{standingSources, levelsOf, Hears, Rule}
@@ -159,7 +159,7 @@ module _ (laws : StoreLaws) where
       let H = holds-what-stands laws h real in
       let there : getD (bookAfter h .sources) i none ≡ some t =
       ap (λ l. getD l i none) (H .sources) ∙ row-at sourceSlots (standingSource h) none i low ∙ ap (λ l. laneAfter l i) q ∙ e in
-      let may : slotVerdict lastSource i (sourceVerdict s) ≡ Allowed = slot-passes lastSource i (sourceVerdict s) (omega (arith, lanes-are), ok) in
+      let may : slotVerdict lastSource i (sourceVerdict s) ≡ Allowed = slot-passes lastSource i (sourceVerdict s) (omega (arith, many-sources), ok) in
       ap (λ (o : Answer × List ℕ). o .0)
       (on-store (placeSource i s) (storeAfter h) (bookAfter h) (H .undamaged) refl ∙ ap (told (storeAfter h)) (at-used _ _ _ t may there))
 

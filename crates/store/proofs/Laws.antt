@@ -23,11 +23,11 @@ use Rattle.store.proofs.Parties.{source-lawful, held-lawful}
 
 -- ---- sizes
 
-many-sources : sourceSlots ≡ sourceCount
+pub many-sources : sourceSlots ≡ sourceCount
 unfolding sourceSlots
 many-sources = refl
 
-many-receivers : receiverSlots ≡ receiverCount
+pub many-receivers : receiverSlots ≡ receiverCount
 unfolding receiverSlots
 many-receivers = refl
 

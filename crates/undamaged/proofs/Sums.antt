@@ -18,7 +18,8 @@ use Rattle.road.specs.Reach.{shareOf, sharesOf, pairOf}
 use Rattle.road.proofs.Pairs.{Sound, heard-is}
 use Rattle.level.specs.Level.{top}
 use Rattle.store.specs.Account.{soundB}
-use Rattle.store.specs.Store.{sourceCount, receiverCount, sourceSlots, receiverSlots}
+use Rattle.store.specs.Store.{sourceCount, sourceSlots}
+use Rattle.store.proofs.Laws.{many-sources}
 use Rattle.ledger.specs.Lists.{present, All, sumOf, orBar, firstBar, weigh}
 use Rattle.undamaged.specs.Calls.{isHeard}
 
@@ -41,14 +42,6 @@ module _ {A : Type 0} where
   sum-most f most [] h = zero-le
   sum-most f most (none ∷ l) h = omega (arith, sum-most f most l h, suc-mul (length l) most)
   sum-most f most (some a ∷ l) h = omega (arith, h .0, sum-most f most l (h .1), suc-mul (length l) most)
-
-pub lanes-are : sourceSlots ≡ sourceCount
-unfolding sourceSlots
-lanes-are = refl
-
-pub seats-are : receiverSlots ≡ receiverCount
-unfolding receiverSlots
-seats-are = refl
 
 -- ---- pairs that are heard
 
@@ -87,7 +80,7 @@ weigh-sound S r e p =
   where
     below : (k : ℕ) → ((s : Source) → isHeard (pairOf s r) ≡ true → shareOf s r k ≤ 1000000000000000) → leb (sumOf (λ s. shareOf s r k) (present S)) top ≡ true
     below k f =
-        let q : length S ≡ sourceCount = e ∙ lanes-are in
+        let q : length S ≡ sourceCount = e ∙ many-sources in
         let m = sum-most (λ s. shareOf s r k) 1000000000000000 S (all-map (λ s. isHeard (pairOf s r) ≡ true) (λ s. shareOf s r k ≤ 1000000000000000) f (present S) p) in
         let n : sumOf (λ s. shareOf s r k) (present S) ≤ sourceCount * 1000000000000000 = subst (λ n. sumOf (λ s. shareOf s r k) (present S) ≤ n * 1000000000000000) q m in
         le-leb (sumOf (λ s. shareOf s r k) (present S)) top (omega (arith, n))
