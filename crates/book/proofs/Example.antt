@@ -22,17 +22,17 @@ use Rattle.road.specs.declared.Verdict.{Verdict}
 use Rattle.road.specs.declared.Verdict.the-variants.{Allowed}
 use Rattle.road.specs.Emission.{carLevel, truckLevel}
 use Rattle.road.specs.Reach.{planSquare, spaceSquare, shareLevel, energyShare, tooLoud, shareOf, loudIn, pairOf}
-use Rattle.road.specs.Judge.{sourceVerdict, receiverVerdict, slotVerdict, lastSource}
+use Rattle.road.specs.Judge.{sourceVerdict, receiverVerdict, slotVerdict}
 use Rattle.road.specs.Figures.{road, home, roads, figures}
 use Rattle.road.proofs.Figures.{figures-right}
 use Rattle.index.specs.Index.{ldenOf, lnightOf}
 use Rattle.index.specs.declared.Index.the-variants.{Quiet, Tenths}
-use Rattle.store.specs.Store.{sourceSlots, receiverSlots}
+use Rattle.store.specs.Store.{lastSource, lastReceiver, sourceSlots, receiverSlots}
 use Rattle.undamaged.specs.declared.Answer.{Answer}
 use Rattle.undamaged.specs.declared.Answer.the-variants.{Levels, Refused}
 use Rattle.ledger.specs.Lists.{present}
 use Rattle.undamaged.specs.Calls.{Step, isHeard, refuse, allow, intoFree, told, placeSource}
-use Rattle.undamaged.proofs.Sums.{lanes-are}
+use Rattle.store.proofs.Laws.{many-sources}
 use Rattle.book.specs.History.{standingReceivers, Placing, source, receiver, calls, Rebuilds, Call, PlaceSource, WithdrawSource, PlaceReceiver}
 use Rattle.book.specs.History.{Ask, storeAfter, bookAfter, answerTo, Real, accepted, kept, lastAt, row, standingSource, standingReceiver}
 use Rattle.book.specs.History.{standingSources, levelsOf, Hears, Rule}
@@ -135,7 +135,7 @@ abbrev withdrawn : List Call
 withdrawn = WithdrawSource 0 ∷ PlaceSource 0 far ∷ Ask 5 ∷ placed
 
 abbrev elsewhere : List Placing
-elsewhere = receiver record { slot = 63; entry = home } ∷ source record { slot = 511; entry = near } ∷ []
+elsewhere = receiver record { slot = lastReceiver; entry = home } ∷ source record { slot = lastSource; entry = near } ∷ []
 
 at-used : (x : Step) (v : Verdict) (o : Option Source) (t : Source) → v ≡ Allowed → o ≡ some t → allow v (intoFree o x) ≡ refuse Taken
 at-used x v o t p q = rw (p, q)
@@ -159,7 +159,7 @@ module _ (laws : StoreLaws) where
       let H = holds-what-stands laws h real in
       let there : getD (bookAfter h .sources) i none ≡ some t =
       ap (λ l. getD l i none) (H .sources) ∙ row-at sourceSlots (standingSource h) none i low ∙ ap (λ l. laneAfter l i) q ∙ e in
-      let may : slotVerdict lastSource i (sourceVerdict s) ≡ Allowed = slot-passes lastSource i (sourceVerdict s) (omega (arith, lanes-are), ok) in
+      let may : slotVerdict lastSource i (sourceVerdict s) ≡ Allowed = slot-passes lastSource i (sourceVerdict s) (omega (arith, many-sources), ok) in
       ap (λ (o : Answer × List ℕ). o .0)
       (on-store (placeSource i s) (storeAfter h) (bookAfter h) (H .undamaged) refl ∙ ap (told (storeAfter h)) (at-used _ _ _ t may there))
 
@@ -220,7 +220,7 @@ module _ (laws : StoreLaws) where
         receiver-slots = (omega arith, tt, tt);
       }
 
-  pub asked-elsewhere : answerTo (calls elsewhere) (Ask 63) ≡ Levels (Tenths 616) (Tenths 503)
+  pub asked-elsewhere : answerTo (calls elsewhere) (Ask lastReceiver) ≡ Levels (Tenths 616) (Tenths 503)
   unfolding receiverSlots
   asked-elsewhere =
       rebuilt laws placed (refl, (tt, tt)) elsewhere elsewhere-rebuilds .same-levels _ 5 (List·Memᴰ·head refl) (omega arith) placed-seat ∙ asked
@@ -236,5 +236,5 @@ placed-twice = taken store-laws
 pub withdrawn-then-asked : answerTo withdrawn (Ask 5) ≡ Levels Quiet Quiet
 withdrawn-then-asked = asked-again store-laws
 
-pub rebuilt-then-asked : answerTo (calls elsewhere) (Ask 63) ≡ Levels (Tenths 616) (Tenths 503)
+pub rebuilt-then-asked : answerTo (calls elsewhere) (Ask lastReceiver) ≡ Levels (Tenths 616) (Tenths 503)
 rebuilt-then-asked = asked-elsewhere store-laws

@@ -12,16 +12,17 @@ use Rattle.road.specs.declared.Receiver.{Receiver}
 use Rattle.road.specs.declared.Pair.{Pair}
 use Rattle.road.specs.declared.Verdict.the-variants.{Allowed}
 use Rattle.road.specs.Reach.{sharesOf, pairOf}
-use Rattle.road.specs.Judge.{sourceVerdict, receiverVerdict, slotVerdict, lastSource, lastReceiver}
+use Rattle.road.specs.Judge.{sourceVerdict, receiverVerdict, slotVerdict}
 use Rattle.store.specs.declared.Held.{Held}
 use Rattle.store.specs.Account.{soundB, covers}
-use Rattle.store.specs.Store.{Book, book, sourceSlots, receiverSlots, SourceStands, HeldStands, SoundBook}
+use Rattle.store.specs.Store.{lastSource, lastReceiver, Book, book, sourceSlots, receiverSlots, SourceStands, HeldStands, SoundBook}
+use Rattle.store.proofs.Laws.{many-sources, many-receivers}
 use Rattle.undamaged.specs.declared.Answer.{Answer}
 use Rattle.ledger.specs.Lists.{omap, present, every, firstBar, weigh, All}
 use Rattle.undamaged.specs.Calls.{used, Step, tell, allow, fromUsed, more, less, hasRoom, canReturn}
 use Rattle.undamaged.specs.Calls.{placeSource, withdrawSource, placeReceiver, withdrawReceiver, askReceiver}
 use Rattle.road.proofs.Judged.{source-by, receiver-by}
-use Rattle.undamaged.proofs.Sums.{HearsAll, all-map, and-both, bars-pass, lanes-are, never, seats-are, weigh-sound}
+use Rattle.undamaged.proofs.Sums.{HearsAll, all-map, and-both, bars-pass, never, weigh-sound}
 use Rattle.book.specs.History.{Call, PlaceSource, WithdrawSource, PlaceReceiver, WithdrawReceiver, Ask, RealCall, accepted, sourceMove}
 use Rattle.book.specs.History.{receiverMove, row, levelsOf, Hears, Rule}
 use Rattle.book.proofs.Slots.{all-both, all-set, all-at, every-all, every-omap, omap-set, omap-twice, omap-unused}
@@ -53,8 +54,8 @@ fill-at S R j = List·getD-map (omap (weigh (present S))) R j none
 -- a store can hold it
 pub standing-sound : (S : List (Option Source)) (R : List (Option Receiver)) → Standing S R → SoundBook (fill S R)
 standing-sound S R p = record {
-  lanes = p .lanes ∙ lanes-are;
-  seats = length-map R (omap (weigh (present S))) ∙ p .seats ∙ seats-are;
+  lanes = p .lanes ∙ many-sources;
+  seats = length-map R (omap (weigh (present S))) ∙ p .seats ∙ many-receivers;
   sources-stand = λ i s e. all-at SourceStands S i s (p .sources) e;
   receivers-stand = λ j x e. go j (getD R j none) refl x (sym (fill-at S R j) ∙ e);
 }
@@ -93,10 +94,10 @@ module _ (lane : ℕ → Option Source) (seat : ℕ → Option Receiver) where
   -- ---- who is in a slot
 
   lane-is : (i : ℕ) → i ≤ lastSource → getD S i none ≡ lane i
-  lane-is i h = row-at sourceSlots lane none i (omega (arith, lanes-are))
+  lane-is i h = row-at sourceSlots lane none i (omega (arith, many-sources))
 
   seat-is : (j : ℕ) → j ≤ lastReceiver → getD (fill S R .receivers) j none ≡ omap afresh (seat j)
-  seat-is j h = fill-at S R j ∙ ap (omap afresh) (row-at receiverSlots seat none j (omega (arith, seats-are)))
+  seat-is j h = fill-at S R j ∙ ap (omap afresh) (row-at receiverSlots seat none j (omega (arith, many-receivers)))
 
   -- ---- a source comes
 
@@ -117,15 +118,15 @@ module _ (lane : ℕ → Option Source) (seat : ℕ → Option Receiver) where
   unfolding placeSource
   place-source i s p =
       let who : Held → Pair = λ x. pairOf s (x .who) in
-      past-fields _ _ _ lastSource i (sourceVerdict s) _ (source-by s) (λ n. (omega (arith, n .0, lanes-are), n .1)) λ ok.
+      past-fields _ _ _ lastSource i (sourceVerdict s) _ (source-by s) (λ n. (omega (arith, n .0, many-sources), n .1)) λ ok.
       past-free _ _ _ (getD S i none) _ (λ n. lane-is i (ok .0) ∙ n .2) λ free.
       past-bars _ _ _ (firstBar who 0 (fill S R .receivers)) _ (bars-apart _ 0 _)
       (λ n. bars-omap afresh who 0 R ∙ bars-none (λ r. pairOf s r) 0 R (n .3)) λ bars.
-      let low : i < length S = omega (arith, ok .0, p .lanes, lanes-are) in
+      let low : i < length S = omega (arith, ok .0, p .lanes, many-sources) in
       let hears = bars-pass (λ r. pairOf s r) 0 R (sym (bars-omap afresh who 0 R) ∙ bars) in
       let all = all-both (λ r. Hears s r) (λ r h a. all-set (λ s. Hears s r) S i (some s) (h, tt) a) (present R) hears (p .heard) in
       past-late _ _ _ _ _ (room i s low free all) (
-        (omega (arith, ok .0, lanes-are), ok .1, sym (lane-is i (ok .0)) ∙ free, hears),
+        (omega (arith, ok .0, many-sources), ok .1, sym (lane-is i (ok .0)) ∙ free, hears),
         (
           ap (book (set S i (some s))) (omap-twice afresh (more s) _ R (entered i s low free)),
           λ real.
@@ -160,10 +161,10 @@ module _ (lane : ℕ → Option Source) (seat : ℕ → Option Receiver) where
   pub withdraw-source : (i : ℕ) → Standing S R → Leads (WithdrawSource i) (withdrawSource i (fill S R))
   unfolding withdrawSource
   withdraw-source i p =
-      past-fields _ _ _ lastSource i Allowed _ tt (λ n. (omega (arith, n .0, lanes-are), refl)) λ ok.
+      past-fields _ _ _ lastSource i Allowed _ tt (λ n. (omega (arith, n .0, many-sources), refl)) λ ok.
       past-used _ _ _ (getD S i none) _ (λ n. ap used (lane-is i (ok .0)) ∙ n .1) λ s there.
       past-late _ _ _ _ _ (returns i s there (p .heard)) (
-        (omega (arith, ok .0, lanes-are), ap used (sym (lane-is i (ok .0)) ∙ there)),
+        (omega (arith, ok .0, many-sources), ap used (sym (lane-is i (ok .0)) ∙ there)),
         (
           ap (book (set S i none)) (omap-twice afresh (less s) _ R (left i s there)),
           λ real.
@@ -182,11 +183,11 @@ module _ (lane : ℕ → Option Source) (seat : ℕ → Option Receiver) where
   pub place-receiver : (j : ℕ) (r : Receiver) → Standing S R → Leads (PlaceReceiver j r) (placeReceiver j r (fill S R))
   unfolding placeReceiver
   place-receiver j r p =
-      past-fields _ _ _ lastReceiver j (receiverVerdict r) _ (receiver-by r) (λ n. (omega (arith, n .0, seats-are), n .1)) λ ok.
+      past-fields _ _ _ lastReceiver j (receiverVerdict r) _ (receiver-by r) (λ n. (omega (arith, n .0, many-receivers), n .1)) λ ok.
       past-free _ _ _ (getD (fill S R .receivers) j none) _ (λ n. seat-is j (ok .0) ∙ ap (omap afresh) (n .2)) λ free.
       past-bars _ _ _ (firstBar (λ (s : Source). pairOf s r) 0 S) _ (bars-apart _ 0 S) (λ n. bars-none (λ s. pairOf s r) 0 S (n .3)) λ bars.
       let hears = bars-pass (λ s. pairOf s r) 0 S bars in (
-        (omega (arith, ok .0, seats-are), ok .1, omap-unused afresh (seat j) (sym (seat-is j (ok .0)) ∙ free), hears),
+        (omega (arith, ok .0, many-receivers), ok .1, omap-unused afresh (seat j) (sym (seat-is j (ok .0)) ∙ free), hears),
         (
           ap (book S) (sym (omap-set afresh R j (some r))),
           λ real.
@@ -207,10 +208,10 @@ module _ (lane : ℕ → Option Source) (seat : ℕ → Option Receiver) where
   at-seat : (j : ℕ) (Q : Answer → Type 0) (P : Book → Type 0) (k : Held → Step) → ((x : Held) → Seated j → Fine (Seated j) Q P (k x))
       → Fine (Seated j) Q P (allow (slotVerdict lastReceiver j Allowed) (fromUsed (getD (fill S R .receivers) j none) k))
   at-seat j Q P k f =
-      past-fields _ _ _ lastReceiver j Allowed _ tt (λ n. (omega (arith, n .0, seats-are), refl)) λ ok.
+      past-fields _ _ _ lastReceiver j Allowed _ tt (λ n. (omega (arith, n .0, many-receivers), refl)) λ ok.
       let same : used (getD (fill S R .receivers) j none) ≡ used (seat j) = ap used (seat-is j (ok .0)) ∙ used-omap afresh (seat j) in
       past-used _ _ _ (getD (fill S R .receivers) j none) _ (λ n. same ∙ n .1) λ x there.
-      f x (omega (arith, ok .0, seats-are), sym same ∙ ap used there)
+      f x (omega (arith, ok .0, many-receivers), sym same ∙ ap used there)
 
   pub withdraw-receiver : (j : ℕ) → Standing S R → Leads (WithdrawReceiver j) (withdrawReceiver j (fill S R))
   unfolding withdrawReceiver
@@ -236,5 +237,5 @@ module _ (lane : ℕ → Option Source) (seat : ℕ → Option Receiver) where
   pub ask-tells : (j : ℕ) (r : Receiver) → j < receiverSlots → seat j ≡ some r → askReceiver j (fill S R) ≡ tell (levelsOf (present S) r)
   unfolding askReceiver
   ask-tells j r h e =
-      let low : j ≤ lastReceiver = omega (arith, seats-are) in
+      let low : j ≤ lastReceiver = omega (arith, many-receivers) in
       rw (slot-passes lastReceiver j Allowed (low, refl), seat-is j low, e)

@@ -37,9 +37,9 @@ stays-sound (WithdrawReceiver j) r s d = step-sound s (withdrawReceiver j) d (re
 stays-sound (Ask j) r s d = step-sound s (askReceiver j) d (asked (bookOf s) (sound-book s d) j)
 
 -- and a store of the right length that is cleared is undamaged
-pub cleared-sound : (s u : List ℕ) (a : Answer) → length s ≡ 20544 → (a, u) ≡ clearStore s → damaged u ≡ false
-unfolding clearStore storeLength
+pub cleared-sound : (s u : List ℕ) (a : Answer) → length s ≡ storeLength → (a, u) ≡ clearStore s → damaged u ≡ false
+unfolding clearStore
 cleared-sound s u a l e =
     ap (λ (o : Answer × List ℕ). damaged (o .1))
-    (e ∙ ap (λ (b : Bool). cond {A = Answer × List ℕ} b (Done, clearedBytes) (Refused Damaged, s)) (eq-eqb (length s) 20544 l))
+    (e ∙ ap (λ (b : Bool). cond {A = Answer × List ℕ} b (Done, clearedBytes) (Refused Damaged, s)) (eq-eqb (length s) storeLength l))
     ∙ cleared .whole

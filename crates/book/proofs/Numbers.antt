@@ -17,10 +17,10 @@ use Rattle.road.specs.declared.Receiver.{Receiver}
 use Rattle.road.specs.declared.Verdict.{Verdict}
 use Rattle.road.specs.declared.Verdict.the-variants.{Allowed, Refused as Barring}
 use Rattle.road.specs.Reach.{pairOf}
-use Rattle.road.specs.Judge.{sourceVerdict, receiverVerdict, slotVerdict, lastSource, lastReceiver}
+use Rattle.road.specs.Judge.{sourceVerdict, receiverVerdict, slotVerdict}
 use Rattle.road.proofs.Judged.{ByFields, source-by, receiver-by, slot-by}
 use Rattle.store.specs.declared.Held.{Held}
-use Rattle.store.specs.Store.{Book, damaged, bookOf, storeLength, clearedBytes}
+use Rattle.store.specs.Store.{lastSource, lastReceiver, Book, damaged, bookOf, storeLength, clearedBytes}
 use Rattle.ledger.specs.Lists.{present, every, firstBar}
 use Rattle.undamaged.specs.declared.Answer.{Answer}
 use Rattle.undamaged.specs.declared.Answer.the-variants.{Done, Refused}

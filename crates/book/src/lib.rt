@@ -11,7 +11,7 @@ ghost use Rattle.undamaged.specs.Calls.{onStore, clearStore, placeSource, withd
 pub fn clear(store: &mut [u8]) -> Answer
     ensures { λ r. ⌜ (r, now (store .exit)) ≡ clearStore (now (store .entry)) ⌝ }
 {
-    if store.len() != 20544 {
+    if store.len() != store::LENGTH {
         return Answer::Refused(Refusal::Damaged);
     }
     store::wipe(store);

@@ -19,13 +19,13 @@ use Rattle.road.specs.declared.Verdict.the-variants.{Allowed, Refused}
 use Rattle.road.proofs.Fit.{passed}
 use Rattle.road.proofs.Judged.{slot-allowed}
 use Rattle.road.proofs.Periods.{periods-again}
-use Rattle.road.specs.Judge.{sourceFields, sourceLeast, sourceMost, receiverFields, receiverLeast, receiverMost, unlessOutside, slowSurface, quietTruck, sourceVerdict, receiverVerdict, lastSource, lastReceiver}
+use Rattle.road.specs.Judge.{sourceFields, sourceLeast, sourceMost, receiverFields, receiverLeast, receiverMost, unlessOutside, slowSurface, quietTruck, sourceVerdict, receiverVerdict}
 use Rattle.codec.specs.declared.Request.{Request}
 use Rattle.codec.specs.declared.Request.the-variants.{PlaceReceiver, WithdrawReceiver, PlaceSource, WithdrawSource, Ask}
 use Rattle.codec.specs.Record.{recordOf}
 use Rattle.codec.specs.Inner.{filled, firstOf}
 use Rattle.codec.proofs.Laws.{first-filled}
-use Rattle.codec.specs.Kinds.{at, kindAt, layoutOf, leftoverOf, verdictOf, kindNumber, fieldsOf, sourceWith}
+use Rattle.codec.specs.Kinds.{lastNamedSource, lastNamedReceiver, at, kindAt, layoutOf, leftoverOf, verdictOf, kindNumber, fieldsOf, sourceWith}
 
 -- ---- an allowed call has fields that fit
 
@@ -62,15 +62,15 @@ source-within s e =
 pub call-within : (c : Request) (s : Source) → verdictOf c s ≡ Allowed → Within (layoutOf (kindNumber c)) (fieldsOf c s)
 unfolding kindAt verdictOf
 call-within (PlaceReceiver slot r) s e =
-    let a = slot-allowed lastReceiver slot (receiverVerdict r) e in
+    let a = slot-allowed lastNamedReceiver slot (receiverVerdict r) e in
     let w = receiver-within r (a .1) in
     (lit< tt, (omega (arith, a .0), (w .0, (w .1 .0, (w .1 .1 .0, (lit< tt, tt))))))
-call-within (WithdrawReceiver slot) s e = (lit< tt, (omega (arith, slot-allowed lastReceiver slot Allowed e .0), (lit< tt, tt)))
+call-within (WithdrawReceiver slot) s e = (lit< tt, (omega (arith, slot-allowed lastNamedReceiver slot Allowed e .0), (lit< tt, tt)))
 call-within (PlaceSource slot) s e =
-    let a = slot-allowed lastSource slot (sourceVerdict s) e in
+    let a = slot-allowed lastNamedSource slot (sourceVerdict s) e in
     (lit< tt, (omega (arith, a .0), source-within s (a .1)))
-call-within (WithdrawSource slot) s e = (lit< tt, (omega (arith, slot-allowed lastSource slot Allowed e .0), (lit< tt, tt)))
-call-within (Ask slot) s e = (lit< tt, (omega (arith, slot-allowed lastReceiver slot Allowed e .0), (lit< tt, tt)))
+call-within (WithdrawSource slot) s e = (lit< tt, (omega (arith, slot-allowed lastNamedSource slot Allowed e .0), (lit< tt, tt)))
+call-within (Ask slot) s e = (lit< tt, (omega (arith, slot-allowed lastNamedReceiver slot Allowed e .0), (lit< tt, tt)))
 
 -- ---- from a call to its fields and back
 

@@ -2,16 +2,16 @@
 -- Assumes nothing.
 use Rattle.road.specs.declared.Source.{Source}
 use Rattle.road.specs.declared.Verdict.the-variants as verdict
-use Rattle.road.specs.Judge.{receiverVerdict, sourceVerdict, lastSource, lastReceiver}
+use Rattle.road.specs.Judge.{receiverVerdict, sourceVerdict}
 use Rattle.road.proofs.Judged.{ByFields, source-by, receiver-by, slot-by}
 use Rattle.codec.specs.declared.Request.{Request}
 use Rattle.codec.specs.declared.Request.the-variants.{PlaceReceiver, WithdrawReceiver, PlaceSource, WithdrawSource, Ask}
-use Rattle.codec.specs.Kinds.{verdictOf}
+use Rattle.codec.specs.Kinds.{lastNamedSource, lastNamedReceiver, verdictOf}
 
 pub verdict-by : (call : Request) (source : Source) → ByFields (verdictOf call source)
 unfolding verdictOf
-verdict-by (PlaceReceiver slot r) s = slot-by lastReceiver slot (receiverVerdict r) (receiver-by r)
-verdict-by (WithdrawReceiver slot) s = slot-by lastReceiver slot verdict.Allowed tt
-verdict-by (PlaceSource slot) s = slot-by lastSource slot (sourceVerdict s) (source-by s)
-verdict-by (WithdrawSource slot) s = slot-by lastSource slot verdict.Allowed tt
-verdict-by (Ask slot) s = slot-by lastReceiver slot verdict.Allowed tt
+verdict-by (PlaceReceiver slot r) s = slot-by lastNamedReceiver slot (receiverVerdict r) (receiver-by r)
+verdict-by (WithdrawReceiver slot) s = slot-by lastNamedReceiver slot verdict.Allowed tt
+verdict-by (PlaceSource slot) s = slot-by lastNamedSource slot (sourceVerdict s) (source-by s)
+verdict-by (WithdrawSource slot) s = slot-by lastNamedSource slot verdict.Allowed tt
+verdict-by (Ask slot) s = slot-by lastNamedReceiver slot verdict.Allowed tt

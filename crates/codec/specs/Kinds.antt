@@ -1,6 +1,6 @@
 -- The kinds of record (document 01, 'Units and fields'): for each its layout, what its fields ask for, which are allowed, and its fields again.
 -- A new kind is a new row of `kinds` and a new line for its call below it.
-use Prim.Native.Nat.{ℕ, suc}
+use Prim.Native.Nat.{ℕ, suc, _-_, _^_}
 use mathlib.Core.List.{List, [], _∷_, _++_}
 use lib.ListN.{getD}
 use Rattle.road.specs.declared.Receiver.{Receiver}
@@ -8,7 +8,7 @@ use Rattle.road.specs.declared.Traffic.{Traffic}
 use Rattle.road.specs.declared.Source.{Source}
 use Rattle.road.specs.declared.Verdict.{Verdict}
 use Rattle.road.specs.declared.Verdict.the-variants.{Allowed}
-use Rattle.road.specs.Judge.{sourceFields, receiverFields, sourceVerdict, receiverVerdict, slotVerdict, lastSource, lastReceiver}
+use Rattle.road.specs.Judge.{sourceFields, receiverFields, sourceVerdict, receiverVerdict, slotVerdict}
 use Rattle.codec.specs.declared.Request.{Request}
 use Rattle.codec.specs.declared.Request.the-variants.{PlaceReceiver, WithdrawReceiver, PlaceSource, WithdrawSource, Ask}
 
@@ -101,13 +101,20 @@ leftoverOf k v = at v (suc (kindAt k .fields))
 
 -- ---- of a call
 
+-- the last slots that 9 and 6 bits can name, however many slots a book has
+abbrev pub lastNamedSource : ℕ
+lastNamedSource = 2 ^ 9 - 1
+
+abbrev pub lastNamedReceiver : ℕ
+lastNamedReceiver = 2 ^ 6 - 1
+
 -- whether it is allowed, by the limits of slots, receivers and sources: refusals 5, 6 and 7
 unfoldable pub verdictOf : Request → Source → Verdict
-verdictOf (PlaceReceiver slot r) s = slotVerdict lastReceiver slot (receiverVerdict r)
-verdictOf (WithdrawReceiver slot) s = slotVerdict lastReceiver slot Allowed
-verdictOf (PlaceSource slot) s = slotVerdict lastSource slot (sourceVerdict s)
-verdictOf (WithdrawSource slot) s = slotVerdict lastSource slot Allowed
-verdictOf (Ask slot) s = slotVerdict lastReceiver slot Allowed
+verdictOf (PlaceReceiver slot r) s = slotVerdict lastNamedReceiver slot (receiverVerdict r)
+verdictOf (WithdrawReceiver slot) s = slotVerdict lastNamedReceiver slot Allowed
+verdictOf (PlaceSource slot) s = slotVerdict lastNamedSource slot (sourceVerdict s)
+verdictOf (WithdrawSource slot) s = slotVerdict lastNamedSource slot Allowed
+verdictOf (Ask slot) s = slotVerdict lastNamedReceiver slot Allowed
 
 -- its kind
 abbrev pub kindNumber : Request → ℕ

@@ -72,9 +72,10 @@ const FIELDS: [usize; 6] = [0, 4, 1, 19, 1, 1];
 // How many bytes.
 const BYTES: [usize; 6] = [0, 9, 2, 30, 2, 2];
 
-const LAST_SOURCE: u16 = 511;
+// The last slots that 9 and 6 bits can name, however many slots a book has.
+const LAST_NAMED_SOURCE: u16 = 511;
 
-const LAST_RECEIVER: u16 = 63;
+const LAST_NAMED_RECEIVER: u16 = 63;
 
 // The sizes of a kind's layout.
 pub struct Shape {
@@ -159,14 +160,22 @@ pub fn verdict(steps: &[u32; 1000], call: Request, source: Source) -> Verdict
 {
     match call {
         Request::PlaceReceiver(slot, r) => {
-            judge::judge_slot(LAST_RECEIVER, slot, judge::judge_receiver(r))
+            judge::judge_slot(LAST_NAMED_RECEIVER, slot, judge::judge_receiver(r))
         }
-        Request::WithdrawReceiver(slot) => judge::judge_slot(LAST_RECEIVER, slot, Verdict::Allowed),
+        Request::WithdrawReceiver(slot) => judge::judge_slot(
+            LAST_NAMED_RECEIVER,
+            slot,
+            Verdict::Allowed,
+        ),
         Request::PlaceSource(slot) => {
-            judge::judge_slot(LAST_SOURCE, slot, judge::judge_source(steps, source))
+            judge::judge_slot(LAST_NAMED_SOURCE, slot, judge::judge_source(steps, source))
         }
-        Request::WithdrawSource(slot) => judge::judge_slot(LAST_SOURCE, slot, Verdict::Allowed),
-        Request::Ask(slot) => judge::judge_slot(LAST_RECEIVER, slot, Verdict::Allowed),
+        Request::WithdrawSource(slot) => judge::judge_slot(
+            LAST_NAMED_SOURCE,
+            slot,
+            Verdict::Allowed,
+        ),
+        Request::Ask(slot) => judge::judge_slot(LAST_NAMED_RECEIVER, slot, Verdict::Allowed),
     }
 }
 

@@ -67,7 +67,7 @@ fn slots(store: &mut [u8], names: &[u8]) {
 
 // All of them.
 pub fn all() {
-    let mut store = [0u8; 20544];
+    let mut store = [0u8; store::LENGTH];
     once(
         &mut store,
         b"book, clear: \nbook, receiver 5: \nbook, source 0: \n25 m, in the book: \n",

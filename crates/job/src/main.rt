@@ -4,12 +4,13 @@ mod pipe;
 
 ghost use mathlib.Core.Path.{_≡_};
 ghost use lib.ListN.{length};
+ghost use Rattle.store.specs.Store.{storeLength};
 
 // Room for a store.
-fn room() -> [u8; 20544]
-    ensures { λ r. ⌜ 20544 ≡ length r ⌝ }
+fn room() -> [u8; store::LENGTH]
+    ensures { λ r. ⌜ storeLength ≡ length r ⌝ }
 {
-    [0; 20544]
+    [0; store::LENGTH]
 }
 
 fn main() {

@@ -10,14 +10,14 @@ use lib.ListN.{getD}
 use Rattle.answer.specs.declared.Refusal.{Refusal}
 use Rattle.store.specs.declared.Lane.{Lane}
 use Rattle.store.specs.declared.Seat.{Seat}
-use Rattle.store.specs.Store.{damaged, bookOf, sourceAt, receiverAt, laneOf, seatOf, laneEntry, seatEntry, SourceStands, HeldStands}
+use Rattle.store.specs.Store.{sourceCount, receiverCount, damaged, bookOf, sourceAt, receiverAt, laneOf, seatOf, laneEntry, seatEntry, SourceStands, HeldStands}
 use Rattle.store.proofs.Laws.{lane-is, seat-is, sound-book}
 use Rattle.ledger.specs.declared.round.Stop.the-variants.{Nowhere, At}
 use Rattle.ledger.specs.Ledger.{stopOf}
 
 -- ---- slots
 
-module _ (s : List ℕ) (i : ℕ) (h : damaged s ≡ false) (l : i < 512) (t : Lane) (e : t ≡ laneOf (sourceAt i s)) where
+module _ (s : List ℕ) (i : ℕ) (h : damaged s ≡ false) (l : i < sourceCount) (t : Lane) (e : t ≡ laneOf (sourceAt i s)) where
   lane-entry : getD (bookOf s .sources) i none ≡ laneEntry t
   lane-entry = lane-is s i h l ∙ ap laneEntry (sym e)
 
@@ -30,7 +30,7 @@ module _ (s : List ℕ) (i : ℕ) (h : damaged s ≡ false) (l : i < 512) (t : L
   pub lane-stands : t .used ≡ true → SourceStands (t .source)
   lane-stands f = sound-book s h .sources-stand i (t .source) (lane-used f)
 
-module _ (s : List ℕ) (j : ℕ) (h : damaged s ≡ false) (l : j < 64) (t : Seat) (e : t ≡ seatOf (receiverAt j s)) where
+module _ (s : List ℕ) (j : ℕ) (h : damaged s ≡ false) (l : j < receiverCount) (t : Seat) (e : t ≡ seatOf (receiverAt j s)) where
   seat-entry : getD (bookOf s .receivers) j none ≡ seatEntry t
   seat-entry = seat-is s j h l ∙ ap seatEntry (sym e)
 

@@ -1,5 +1,5 @@
 -- The gathering of all standing sources at a receiver: its steps, from the lowest slot on.
--- No sum can pass 512·10^15: each of at most 512 shares is at most 10^15. Assumes nothing.
+-- No sum can pass the most that it may be: there is at most one share a source slot, and each is at most 10^15. Assumes nothing.
 use mathlib.Core.Path.{_≡_, refl, sym, ap, ap₂, _∙_, subst}
 use mathlib.Core.Bool.{Bool, true, false, _&&_}
 use mathlib.Core.Option.{Option, none, some}
@@ -23,6 +23,7 @@ use Rattle.road.proofs.Pairs.{heard-is}
 use Rattle.store.specs.declared.Account.{Account}
 use Rattle.level.specs.Level.{top}
 use Rattle.store.specs.Account.{soundB, plusOf, roomB, nothing}
+use Rattle.store.specs.Store.{sourceCount}
 use Rattle.ledger.specs.declared.round.Stop.{Stop}
 use Rattle.ledger.specs.declared.round.Stop.the-variants.{Nowhere, At}
 use Rattle.ledger.specs.declared.gather.Gathered.{Gathered}
@@ -94,7 +95,7 @@ module _ (r : Receiver) where
             night = part-heard 2 _ (x .night) s e (ap (λ (y : Shares). y .night) (k .0)) (k .1 .night) (g .night);
           }
 
-      pub gather-room : (s : Source) (x : Shares) → i < 512 → pairOf s r ≡ Heard x → roomB sums x ≡ true
+      pub gather-room : (s : Source) (x : Shares) → i < sourceCount → pairOf s r ≡ Heard x → roomB sums x ≡ true
       gather-room s x b t =
           let k = heard-is s r x t .1 in
           let d : sums .day + x .day ≤ top = omega (arith, g .day .small, k .day) in
@@ -106,7 +107,7 @@ module _ (r : Receiver) where
       unfolding firstBar
       gather-barred s b e t = g .stop ∙ ap (firstBar pairAt i) (rest-is (some s) e) ∙ ap (λ (q : Pair). orBar i q (firstBar pairAt (suc i) (drop (i + 1) l))) t
 
-  pub gather-over : (l : List (Option Source)) (sums : Account) (i : ℕ) → length l ≤ i → i ≤ 512 → Gathers l sums i
+  pub gather-over : (l : List (Option Source)) (sums : Account) (i : ℕ) → length l ≤ i → i ≤ sourceCount → Gathers l sums i
       → Gathering r l (record { stop = Nowhere; sums = sums })
   unfolding firstBar
   gather-over l sums i h b g =

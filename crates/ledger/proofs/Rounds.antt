@@ -14,6 +14,7 @@ use Rattle.road.specs.declared.Bar.{Bar}
 use Rattle.store.specs.declared.Account.{Account}
 use Rattle.store.specs.declared.Held.{Held}
 use Rattle.store.specs.declared.Seat.{Seat}
+use Rattle.store.specs.Store.{receiverCount}
 use Rattle.ledger.specs.declared.round.Turn.{Turn}
 use Rattle.ledger.specs.declared.round.Turn.the-variants.{Moved, Barred, Late}
 use Rattle.ledger.specs.declared.round.Stop.the-variants.{Nowhere, At}
@@ -54,11 +55,11 @@ module _ (turn : Held → Turn) where
   pub record Rounding (l : List (Option Held)) (late : Bool) (seats : List Seat) (j : ℕ) : Type 0 where
     pub stop : stopAt turn 0 l ≡ stopAt turn j (drop j l)
     pub time : allInTime l ≡ (not late && allInTime (drop j l))
-    pub count : length seats ≡ 64
+    pub count : length seats ≡ receiverCount
     pub done : late ≡ false → take j seats ≡ map toSeat (map (movedBy turn) (take j l))
-    pub rest : (k : ℕ) → j ≤ k → k < 64 → getD seats k vacant ≡ vacant
+    pub rest : (k : ℕ) → j ≤ k → k < receiverCount → getD seats k vacant ≡ vacant
 
-  module _ (l : List (Option Held)) (late : Bool) (seats : List Seat) (j : ℕ) (h : j < length l) (k : j < 64) (g : Rounding l late seats j) where
+  module _ (l : List (Option Held)) (late : Bool) (seats : List Seat) (j : ℕ) (h : j < length l) (k : j < receiverCount) (g : Rounding l late seats j) where
     here : drop j l ≡ getD l j none ∷ drop (j + 1) l
     here = rw add-one (drop-cons l j none h)
 
@@ -125,16 +126,16 @@ module _ (turn : Held → Turn) where
     unfolding stopAt
     round-barred x b e t = g .stop ∙ ap (stopAt turn j) (rest-is (some x) e) ∙ ap (λ (a : Turn). orStop j a (stopAt turn (suc j) (drop (j + 1) l))) t
 
-  pub round-begun : (l : List (Option Held)) → Rounding l false (replicate 64 vacant) 0
+  pub round-begun : (l : List (Option Held)) → Rounding l false (replicate receiverCount vacant) 0
   round-begun l = record {
     stop = refl;
     time = refl;
-    count = length-replicate 64 vacant;
+    count = length-replicate receiverCount vacant;
     done = λ z. refl;
-    rest = λ n a b. getD-replicate 64 n vacant vacant b;
+    rest = λ n a b. getD-replicate receiverCount n vacant vacant b;
   }
 
-  pub round-over : (l : List (Option Held)) (late : Bool) (seats : List Seat) (j : ℕ) → length l ≡ 64 → 64 ≤ j → Rounding l late seats j
+  pub round-over : (l : List (Option Held)) (late : Bool) (seats : List Seat) (j : ℕ) → length l ≡ receiverCount → receiverCount ≤ j → Rounding l late seats j
       → RoundedBy turn l (record { stop = Nowhere; late = late; seats = seats })
   unfolding stopAt
   round-over l late seats j n h g =

@@ -17,7 +17,7 @@ use Rattle.store.specs.declared.Account.{Account}
 use Rattle.store.specs.declared.Held.{Held}
 use Rattle.store.specs.declared.Seat.{Seat}
 use Rattle.store.specs.Account.{plusOf, minusOf, covers, roomB, soundB, nothing}
-use Rattle.store.specs.Store.{Book, book, HeldStands}
+use Rattle.store.specs.Store.{receiverCount, Book, book, HeldStands}
 use Rattle.ledger.specs.declared.round.Turn.{Turn}
 use Rattle.ledger.specs.declared.round.Turn.the-variants.{Moved, Barred, Late}
 use Rattle.ledger.specs.declared.round.Stop.{Stop}
@@ -102,7 +102,7 @@ settled t j b = book (b .sources) (seatedAt t j (b .receivers))
 
 -- each used seat may be in the book
 pub record StandingSeats (ts : List Seat) : Type 0 where
-  pub count : length ts ≡ 64
+  pub count : length ts ≡ receiverCount
   pub stand : (j : ℕ) → getD ts j vacant .used ≡ true → HeldStands (getD ts j vacant .held)
 
 -- ---- what the sources bring to a receiver

@@ -16,7 +16,7 @@ ghost use lib.ListN.{getD};
 ghost use Rattle.level.specs.Table.{table};
 ghost use Rattle.road.specs.declared.Verdict.the-variants.{Allowed};
 ghost use Rattle.road.specs.Judge.{receiverVerdict};
-ghost use Rattle.store.specs.Store.{damaged, bookOf};
+ghost use Rattle.store.specs.Store.{sourceCount, damaged, bookOf};
 ghost use Rattle.ledger.specs.Ledger.{offerOf, Gathering};
 
 // What a source slot brings.
@@ -34,7 +34,7 @@ pub struct Gathered {
 
 // What the source in a slot brings to a receiver.
 fn hear_source(steps: &[u32; 1000], store: &[u8], i: usize, r: Receiver) -> Offer
-    requires { ⌜ (now steps ≡ table) × (damaged (now store) ≡ false) × (i < 512) × (receiverVerdict r ≡ Allowed) ⌝ }
+    requires { ⌜ (now steps ≡ table) × (damaged (now store) ≡ false) × (i < sourceCount) × (receiverVerdict r ≡ Allowed) ⌝ }
     ensures { λ o. ⌜ o ≡ offerOf r (getD (bookOf (now (store .entry)) .sources) i none) ⌝ }
 {
     if !store::sources::marked(store, i) {
@@ -59,7 +59,7 @@ pub fn gather(steps: &[u32; 1000], store: &[u8], r: Receiver) -> Gathered
         night: 0,
     };
     let mut i = 0;
-    while i < 512 {
+    while i < store::SOURCES {
         match hear_source(steps, store, i, r) {
             Offer::Free => {
                 i += 1;

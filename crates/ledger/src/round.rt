@@ -16,7 +16,7 @@ ghost use Rattle.level.specs.Table.{table};
 ghost use Rattle.road.specs.declared.Verdict.the-variants.{Allowed};
 ghost use Rattle.road.specs.Judge.{sourceVerdict, receiverVerdict};
 ghost use Rattle.road.specs.Inner.{voicesOf};
-ghost use Rattle.store.specs.Store.{damaged, bookOf, bookBytes, book, HeldStands};
+ghost use Rattle.store.specs.Store.{receiverCount, damaged, bookOf, bookBytes, book, HeldStands};
 ghost use Rattle.ledger.specs.Lists.{barAt};
 ghost use Rattle.ledger.specs.Ledger.{raisedBy, loweredBy, turnOf, vacant, Rounded, settled, seated, StandingSeats};
 
@@ -37,7 +37,7 @@ pub enum Stop {
 pub struct Round {
     pub stop: Stop,
     pub late: bool,
-    pub seats: [Seat; 64],
+    pub seats: [Seat; store::RECEIVERS],
 }
 
 // The refusal of a pair with the slot of the other party.
@@ -131,10 +131,10 @@ pub fn go_round(
     ensures { λ r. ⌜ Rounded adding s (bookOf (now (store .entry)) .receivers) r ⌝ }
 {
     let empty = vacant();
-    let mut seats = [empty; 64];
+    let mut seats = [empty; store::RECEIVERS];
     let mut late = false;
     let mut j = 0;
-    while j < 64 {
+    while j < store::RECEIVERS {
         let seat = store::receivers::seat(store, j);
         let x = seat.held;
         if seat.used {
@@ -170,7 +170,7 @@ pub fn go_round(
 
 // A seat that is used is written into its slot; one that is not leaves the slot as it was.
 fn settle(store: &mut [u8], j: usize, seat: Seat)
-    requires { ⌜ (damaged (now store) ≡ false) × (j < 64) × (seat .used ≡ true → HeldStands (seat .held)) ⌝ }
+    requires { ⌜ (damaged (now store) ≡ false) × (j < receiverCount) × (seat .used ≡ true → HeldStands (seat .held)) ⌝ }
     ensures { λ _. ⌜ now (store .exit) ≡ bookBytes (settled seat j (bookOf (now (store .entry)))) ⌝ }
 {
     if !seat.used {
@@ -181,12 +181,12 @@ fn settle(store: &mut [u8], j: usize, seat: Seat)
 }
 
 // The second pass: the seats that are used are written.
-pub fn write_seats(store: &mut [u8], seats: [Seat; 64])
+pub fn write_seats(store: &mut [u8], seats: [Seat; store::RECEIVERS])
     requires { ⌜ (damaged (now store) ≡ false) × StandingSeats seats ⌝ }
     ensures { λ _. ⌜ (damaged (now (store .exit)) ≡ false) × (bookOf (now (store .exit)) ≡ book (bookOf (now (store .entry)) .sources) (seated seats (bookOf (now (store .entry)) .receivers))) ⌝ }
 {
     let mut k = 0;
-    while k < 64 {
+    while k < store::RECEIVERS {
         let seat = seats[k];
         settle(store, k, seat);
         k += 1;

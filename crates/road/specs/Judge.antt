@@ -76,9 +76,3 @@ receiverVerdict r = unlessOutside receiverLeast receiverMost (receiverFields r) 
 -- the slot is field 1, and is judged first
 abbrev pub slotVerdict : ℕ → ℕ → Verdict → Verdict
 slotVerdict most slot v = cond (leb slot most) v (Refused (Field 1))
-
-abbrev pub lastSource : ℕ
-lastSource = 511
-
-abbrev pub lastReceiver : ℕ
-lastReceiver = 63

@@ -10,7 +10,7 @@ ghost use mathlib.Core.Path.{_≡_};
 ghost use mathlib.Core.Bool.{cond};
 ghost use Prim.Native.Nat.{_+_, _≤_, _<_};
 ghost use Rattle.level.specs.Table.{table};
-ghost use Rattle.road.specs.Judge.{sourceFields, sourceLeast, sourceMost, receiverFields, receiverLeast, receiverMost, sourceVerdict, receiverVerdict, slotVerdict, slowSurface, quietTruck, lastSource, lastReceiver};
+ghost use Rattle.road.specs.Judge.{sourceFields, sourceLeast, sourceMost, receiverFields, receiverLeast, receiverMost, sourceVerdict, receiverVerdict, slotVerdict, slowSurface, quietTruck};
 ghost use Rattle.answer.specs.declared.Refusal.the-variants.{Field};
 ghost use Rattle.road.specs.declared.Verdict.the-variants.{Refused};
 

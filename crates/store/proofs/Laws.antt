@@ -17,25 +17,25 @@ use Rattle.layout.proofs.Numbers.{bytes-append, bytes-drop}
 use Rattle.road.specs.declared.Source.{Source}
 use Rattle.store.specs.declared.Held.{Held}
 use Rattle.store.specs.Slots.{slotBytes, slots, found, slotOf, slotAt, entries, anyTorn, bytes, Each}
-use Rattle.store.specs.Store.{sourceSlots, receiverSlots, split, storeLength, sourceParty, heldParty, Book, book, damaged, bookOf, bookBytes, clearedBytes, emptyBook, SourceStands, HeldStands, SoundBook, sourceAt, receiverAt, laneOf, laneEntry, seatOf, seatEntry}
+use Rattle.store.specs.Store.{sourceCount, receiverCount, sourceSize, receiverSize, sourceSlots, receiverSlots, split, storeLength, sourceParty, heldParty, Book, book, damaged, bookOf, bookBytes, clearedBytes, emptyBook, SourceStands, HeldStands, SoundBook, sourceAt, receiverAt, laneOf, laneEntry, seatOf, seatEntry}
 use Rattle.store.proofs.Slots.{either-false, over-behind, length-bytes, bytes-are, length-entries, entry-at, whole-at, set-bytes, bytes-none, bytes-slots, slots-bytes, entries-stand, marked}
 use Rattle.store.proofs.Parties.{source-lawful, held-lawful}
 
 -- ---- sizes
 
-many-sources : sourceSlots ≡ 512
+pub many-sources : sourceSlots ≡ sourceCount
 unfolding sourceSlots
 many-sources = refl
 
-many-receivers : receiverSlots ≡ 64
+pub many-receivers : receiverSlots ≡ receiverCount
 unfolding receiverSlots
 many-receivers = refl
 
-sources-end : sourceSlots * 36 ≡ split
+sources-end : sourceSlots * sourceSize ≡ split
 unfolding sourceSlots split
 sources-end = refl
 
-receivers-end : split + receiverSlots * 33 ≡ storeLength
+receivers-end : split + receiverSlots * receiverSize ≡ storeLength
 unfolding receiverSlots split storeLength
 receivers-end = refl
 
@@ -68,11 +68,11 @@ bytes-book s b h =
     let u = undamaged s h in
     let e = sources-end in
     let f = receivers-end in
-    let n : length (drop split s) ≡ receiverSlots * 33 = rw (length-drop split s) (omega arith) in
+    let n : length (drop split s) ≡ receiverSlots * receiverSize = rw (length-drop split s) (omega arith) in
     ap₂ (λ (x y : List ℕ). x ++ y)
     (bytes-slots sourceParty SourceStands source-lawful sourceSlots s (omega arith) b (u .1) ∙ ap (λ (k : ℕ). take k s) e)
     (bytes-slots heldParty HeldStands held-lawful receiverSlots (drop split s) (omega arith) (bytes-drop split s b) (u .2)
-    ∙ take-all (receiverSlots * 33) (drop split s) (omega arith))
+    ∙ take-all (receiverSlots * receiverSize) (drop split s) (omega arith))
     ∙ take-append-drop split s
 
 pub sound-book : (s : List ℕ) → damaged s ≡ false → SoundBook (bookOf s)
@@ -103,7 +103,7 @@ book-bytes b h =
     let y = bytes heldParty (b .receivers) in
     let e : length (b .sources) ≡ sourceSlots = h .lanes ∙ sym many-sources in
     let f : length (b .receivers) ≡ receiverSlots = h .seats ∙ sym many-receivers in
-    let d : drop split (x ++ y) ≡ y = drop-at x y split (length-bytes sourceParty (b .sources) ∙ ap (λ (k : ℕ). k * 36) e ∙ sources-end) in
+    let d : drop split (x ++ y) ≡ y = drop-at x y split (length-bytes sourceParty (b .sources) ∙ ap (λ (k : ℕ). k * sourceSize) e ∙ sources-end) in
     let p = slots-bytes sourceParty SourceStands source-lawful (b .sources) y (h .sources-stand) in
     let q = slots-bytes heldParty HeldStands held-lawful (b .receivers) [] (h .receivers-stand) in
     let r : (n : ℕ) → slots heldParty n (drop split (x ++ y)) ≡ slots heldParty n (y ++ []) = λ n. ap (slots heldParty n) (d ∙ sym (append-nil y)) in (
@@ -119,15 +119,15 @@ book-bytes b h =
 
 -- receiver slot j is slot j of what follows the sources
 pub seat-place : (j : ℕ) (s : List ℕ) → slotAt heldParty j (drop split s) ≡ receiverAt j s
-seat-place j s = ap (take 33) (drop-drop (j * 33) split s)
+seat-place j s = ap (take receiverSize) (drop-drop (j * receiverSize) split s)
 
-pub lane-is : (s : List ℕ) (i : ℕ) → damaged s ≡ false → i < 512 → getD (bookOf s .sources) i none ≡ laneEntry (laneOf (sourceAt i s))
+pub lane-is : (s : List ℕ) (i : ℕ) → damaged s ≡ false → i < sourceCount → getD (bookOf s .sources) i none ≡ laneEntry (laneOf (sourceAt i s))
 unfolding bookOf laneOf slotOf
 lane-is s i h l =
     let k : i < sourceSlots = rw many-sources l in
     entry-at sourceParty sourceSlots i s k ∙ marked sourceParty _ (whole-at sourceParty sourceSlots i s k (undamaged s h .1))
 
-pub seat-is : (s : List ℕ) (j : ℕ) → damaged s ≡ false → j < 64 → getD (bookOf s .receivers) j none ≡ seatEntry (seatOf (receiverAt j s))
+pub seat-is : (s : List ℕ) (j : ℕ) → damaged s ≡ false → j < receiverCount → getD (bookOf s .receivers) j none ≡ seatEntry (seatOf (receiverAt j s))
 unfolding bookOf seatOf slotOf
 seat-is s j h l =
     let k : j < receiverSlots = rw many-receivers l in
@@ -136,65 +136,65 @@ seat-is s j h l =
     ∙ ap (λ (t : List ℕ). seatEntry (seatOf t)) (seat-place j s)
 
 -- what the mark of a slot says of the book
-pub lane-used : (s : List ℕ) (i : ℕ) → damaged s ≡ false → i < 512 → laneOf (sourceAt i s) .used ≡ true
+pub lane-used : (s : List ℕ) (i : ℕ) → damaged s ≡ false → i < sourceCount → laneOf (sourceAt i s) .used ≡ true
     → (getD (bookOf s .sources) i none ≡ some (laneOf (sourceAt i s) .source)) × SourceStands (laneOf (sourceAt i s) .source)
 lane-used s i h l u =
     let t = laneOf (sourceAt i s) .source in
     let e = lane-is s i h l ∙ ap (λ (b : Bool). cond b (some t) none) u in
     (e, sound-book s h .sources-stand i t e)
 
-pub lane-free : (s : List ℕ) (i : ℕ) → damaged s ≡ false → i < 512 → laneOf (sourceAt i s) .used ≡ false → getD (bookOf s .sources) i none ≡ none
+pub lane-free : (s : List ℕ) (i : ℕ) → damaged s ≡ false → i < sourceCount → laneOf (sourceAt i s) .used ≡ false → getD (bookOf s .sources) i none ≡ none
 lane-free s i h l u = lane-is s i h l ∙ ap (λ (b : Bool). cond b (some (laneOf (sourceAt i s) .source)) none) u
 
-pub seat-used : (s : List ℕ) (j : ℕ) → damaged s ≡ false → j < 64 → seatOf (receiverAt j s) .used ≡ true
+pub seat-used : (s : List ℕ) (j : ℕ) → damaged s ≡ false → j < receiverCount → seatOf (receiverAt j s) .used ≡ true
     → (getD (bookOf s .receivers) j none ≡ some (seatOf (receiverAt j s) .held)) × HeldStands (seatOf (receiverAt j s) .held)
 seat-used s j h l u =
     let t = seatOf (receiverAt j s) .held in
     let e = seat-is s j h l ∙ ap (λ (b : Bool). cond b (some t) none) u in
     (e, sound-book s h .receivers-stand j t e)
 
-pub seat-free : (s : List ℕ) (j : ℕ) → damaged s ≡ false → j < 64 → seatOf (receiverAt j s) .used ≡ false → getD (bookOf s .receivers) j none ≡ none
+pub seat-free : (s : List ℕ) (j : ℕ) → damaged s ≡ false → j < receiverCount → seatOf (receiverAt j s) .used ≡ false → getD (bookOf s .receivers) j none ≡ none
 seat-free s j h l u = seat-is s j h l ∙ ap (λ (b : Bool). cond b (some (seatOf (receiverAt j s) .held)) none) u
 
 -- a walk from slot 0 on: what is left begins with the next slot's entry
 next : {A : Type 0} (l : List (Option A)) (i n : ℕ) (o : Option A) → length l ≡ n → i < n → getD l i none ≡ o → drop i l ≡ o ∷ drop (i + 1) l
 next l i n o e h f = rw add-one (drop-cons l i none (omega arith) ∙ ap (λ x. x ∷ drop (suc i) l) f)
 
-pub next-source : (s : List ℕ) (i : ℕ) → damaged s ≡ false → i < 512
+pub next-source : (s : List ℕ) (i : ℕ) → damaged s ≡ false → i < sourceCount
     → drop i (bookOf s .sources) ≡ laneEntry (laneOf (sourceAt i s)) ∷ drop (i + 1) (bookOf s .sources)
-next-source s i h l = next (bookOf s .sources) i 512 _ (sound-book s h .lanes) l (lane-is s i h l)
+next-source s i h l = next (bookOf s .sources) i sourceCount _ (sound-book s h .lanes) l (lane-is s i h l)
 
-pub next-held : (s : List ℕ) (j : ℕ) → damaged s ≡ false → j < 64
+pub next-held : (s : List ℕ) (j : ℕ) → damaged s ≡ false → j < receiverCount
     → drop j (bookOf s .receivers) ≡ seatEntry (seatOf (receiverAt j s)) ∷ drop (j + 1) (bookOf s .receivers)
-next-held s j h l = next (bookOf s .receivers) j 64 _ (sound-book s h .seats) l (seat-is s j h l)
+next-held s j h l = next (bookOf s .receivers) j receiverCount _ (sound-book s h .seats) l (seat-is s j h l)
 
-pub no-source-left : (s : List ℕ) (i : ℕ) → damaged s ≡ false → 512 ≤ i → drop i (bookOf s .sources) ≡ []
+pub no-source-left : (s : List ℕ) (i : ℕ) → damaged s ≡ false → sourceCount ≤ i → drop i (bookOf s .sources) ≡ []
 no-source-left s i h l = drop-of-length-le (bookOf s .sources) {i = i} (omega (arith, sound-book s h .lanes))
 
-pub no-held-left : (s : List ℕ) (j : ℕ) → damaged s ≡ false → 64 ≤ j → drop j (bookOf s .receivers) ≡ []
+pub no-held-left : (s : List ℕ) (j : ℕ) → damaged s ≡ false → receiverCount ≤ j → drop j (bookOf s .receivers) ≡ []
 no-held-left s j h l = drop-of-length-le (bookOf s .receivers) {i = j} (omega (arith, sound-book s h .seats))
 
 -- ---- a write of a slot
 
-pub set-source : (s : List ℕ) (i : ℕ) (o : Option Source) → Bytes s → damaged s ≡ false → i < 512
-    → over (i * 36) (slotBytes sourceParty o) s ≡ bookBytes (book (set (bookOf s .sources) i o) (bookOf s .receivers))
+pub set-source : (s : List ℕ) (i : ℕ) (o : Option Source) → Bytes s → damaged s ≡ false → i < sourceCount
+    → over (i * sourceSize) (slotBytes sourceParty o) s ≡ bookBytes (book (set (bookOf s .sources) i o) (bookOf s .receivers))
 unfolding bookBytes
 set-source s i o b h l =
-    ap (over (i * 36) (slotBytes sourceParty o)) (sym (bytes-book s b h))
+    ap (over (i * sourceSize) (slotBytes sourceParty o)) (sym (bytes-book s b h))
     ∙ set-bytes sourceParty (bookOf s .sources) i o (bytes heldParty (bookOf s .receivers)) (omega (arith, sound-book s h .lanes))
 
-pub set-held : (s : List ℕ) (j : ℕ) (o : Option Held) → Bytes s → damaged s ≡ false → j < 64
-    → over (split + j * 33) (slotBytes heldParty o) s ≡ bookBytes (book (bookOf s .sources) (set (bookOf s .receivers) j o))
+pub set-held : (s : List ℕ) (j : ℕ) (o : Option Held) → Bytes s → damaged s ≡ false → j < receiverCount
+    → over (split + j * receiverSize) (slotBytes heldParty o) s ≡ bookBytes (book (bookOf s .sources) (set (bookOf s .receivers) j o))
 unfolding bookBytes
 set-held s j o b h l =
     let x = bytes sourceParty (bookOf s .sources) in
     let y = bytes heldParty (bookOf s .receivers) in
     let k = sound-book s h in
-    let n : length x ≡ split = length-bytes sourceParty (bookOf s .sources) ∙ ap (λ (m : ℕ). m * 36) (k .lanes ∙ sym many-sources) ∙ sources-end in
-    ap (over (split + j * 33) (slotBytes heldParty o)) (sym (bytes-book s b h))
-    ∙ over-behind x (slotBytes heldParty o) y split (j * 33) n
+    let n : length x ≡ split = length-bytes sourceParty (bookOf s .sources) ∙ ap (λ (m : ℕ). m * sourceSize) (k .lanes ∙ sym many-sources) ∙ sources-end in
+    ap (over (split + j * receiverSize) (slotBytes heldParty o)) (sym (bytes-book s b h))
+    ∙ over-behind x (slotBytes heldParty o) y split (j * receiverSize) n
     ∙ ap (λ (t : List ℕ). x ++ t)
-    (ap (over (j * 33) (slotBytes heldParty o)) (sym (append-nil y))
+    (ap (over (j * receiverSize) (slotBytes heldParty o)) (sym (append-nil y))
     ∙ set-bytes heldParty (bookOf s .receivers) j o [] (omega arith)
     ∙ append-nil (bytes heldParty (set (bookOf s .receivers) j o)))
 
@@ -235,14 +235,14 @@ pub record Holds (s : List ℕ) (b : Book) : Type 0 where
 pub holds-bytes : (b : Book) → SoundBook b → Holds (bookBytes b) b
 holds-bytes b h = let e = book-bytes b h in record { bytes = bytesOf-bytes b; whole = e .0; is = e .1 }
 
-pub source-written : (s : List ℕ) (i : ℕ) (o : Option Source) → Bytes s → damaged s ≡ false → i < 512 → ((a : Source) → o ≡ some a → SourceStands a)
-    → Holds (over (i * 36) (slotBytes sourceParty o) s) (book (set (bookOf s .sources) i o) (bookOf s .receivers))
+pub source-written : (s : List ℕ) (i : ℕ) (o : Option Source) → Bytes s → damaged s ≡ false → i < sourceCount → ((a : Source) → o ≡ some a → SourceStands a)
+    → Holds (over (i * sourceSize) (slotBytes sourceParty o) s) (book (set (bookOf s .sources) i o) (bookOf s .receivers))
 source-written s i o b h l k =
     let c = book (set (bookOf s .sources) i o) (bookOf s .receivers) in
     subst (λ (t : List ℕ). Holds t c) (sym (set-source s i o b h l)) (holds-bytes c (sound-source (bookOf s) i o (sound-book s h) k))
 
-pub held-written : (s : List ℕ) (j : ℕ) (o : Option Held) → Bytes s → damaged s ≡ false → j < 64 → ((a : Held) → o ≡ some a → HeldStands a)
-    → Holds (over (split + j * 33) (slotBytes heldParty o) s) (book (bookOf s .sources) (set (bookOf s .receivers) j o))
+pub held-written : (s : List ℕ) (j : ℕ) (o : Option Held) → Bytes s → damaged s ≡ false → j < receiverCount → ((a : Held) → o ≡ some a → HeldStands a)
+    → Holds (over (split + j * receiverSize) (slotBytes heldParty o) s) (book (bookOf s .sources) (set (bookOf s .receivers) j o))
 held-written s j o b h l k =
     let c = book (bookOf s .sources) (set (bookOf s .receivers) j o) in
     subst (λ (t : List ℕ). Holds t c) (sym (set-held s j o b h l)) (holds-bytes c (sound-held (bookOf s) j o (sound-book s h) k))
@@ -252,10 +252,10 @@ held-written s j o b h l k =
 cleared-is : clearedBytes ≡ bookBytes emptyBook
 unfolding clearedBytes bookBytes
 cleared-is =
-    let n : sourceSlots * 36 + receiverSlots * 33 ≡ storeLength = omega (arith, sources-end, receivers-end) in
+    let n : sourceSlots * sourceSize + receiverSlots * receiverSize ≡ storeLength = omega (arith, sources-end, receivers-end) in
     sym
     (ap₂ (λ (x y : List ℕ). x ++ y) (bytes-none sourceParty sourceSlots) (bytes-none heldParty receiverSlots)
-    ∙ replicate-append-replicate (sourceSlots * 36) (receiverSlots * 33) 0 ∙ ap (λ (k : ℕ). replicate k 0) n)
+    ∙ replicate-append-replicate (sourceSlots * sourceSize) (receiverSlots * receiverSize) 0 ∙ ap (λ (k : ℕ). replicate k 0) n)
 
 each-none : {A : Type 0} (P : A → Type 0) (n : ℕ) → Each P (replicate n none)
 each-none P zero i a e = absurd (let z : _≡_ {A = ℕ} 0 1 = cc in omega arith)

@@ -1,5 +1,5 @@
 -- The store (docs/STORE.md) and the book that stands in it: two lists of slots, each not in use or with its entry.
-use Prim.Native.Nat.{ℕ, suc, _+_, _*_}
+use Prim.Native.Nat.{ℕ, suc, _+_, _-_, _*_}
 use mathlib.Core.Path.{_≡_}
 use mathlib.Core.Bool.{Bool, true, false, cond, not, _&&_, _||_}
 use mathlib.Core.List.{List, [], _∷_, _++_}
@@ -19,20 +19,41 @@ use Rattle.store.specs.declared.Seat.{Seat}
 use Rattle.store.specs.Account.{soundB}
 use Rattle.store.specs.Slots.{Party, partyLayout, found, entries, anyTorn, bytes, Each}
 
--- ---- sizes, which nothing unfolds unasked
+-- ---- how many slots there are, and their sizes in bytes: each number is said here and, for the code, in src/lib.rt
+
+abbrev pub sourceCount : ℕ
+sourceCount = 512
+
+abbrev pub receiverCount : ℕ
+receiverCount = 64
+
+abbrev pub sourceSize : ℕ
+sourceSize = 36
+
+abbrev pub receiverSize : ℕ
+receiverSize = 33
+
+-- the last slots, from slot 0 on
+abbrev pub lastSource : ℕ
+lastSource = sourceCount - 1
+
+abbrev pub lastReceiver : ℕ
+lastReceiver = receiverCount - 1
+
+-- ---- the same numbers where nothing unfolds them unasked
 
 unfoldable pub sourceSlots : ℕ
-sourceSlots = 512
+sourceSlots = sourceCount
 
 unfoldable pub receiverSlots : ℕ
-receiverSlots = 64
+receiverSlots = receiverCount
 
 -- where the receivers begin
 unfoldable pub split : ℕ
-split = 18432
+split = sourceCount * sourceSize
 
 unfoldable pub storeLength : ℕ
-storeLength = 20544
+storeLength = sourceCount * sourceSize + receiverCount * receiverSize
 
 -- ---- the two parties: place 0 of a slot's numbers is the mark
 
@@ -133,19 +154,19 @@ abbrev pub HeldStands : Held → Type 0
 HeldStands h = (receiverVerdict (h .who) ≡ Allowed) × (soundB (h .sums) ≡ true)
 
 pub record SoundBook (b : Book) : Type 0 where
-  pub lanes : length (b .sources) ≡ 512
-  pub seats : length (b .receivers) ≡ 64
+  pub lanes : length (b .sources) ≡ sourceCount
+  pub seats : length (b .receivers) ≡ receiverCount
   pub sources-stand : Each SourceStands (b .sources)
   pub receivers-stand : Each HeldStands (b .receivers)
 
 -- ---- one slot as it is read: whether its mark says used, and its fields as they stand
 
--- the 36 bytes of source slot i, and the 33 of receiver slot j
+-- the bytes of source slot i, and of receiver slot j
 abbrev pub sourceAt : ℕ → List ℕ → List ℕ
-sourceAt i s = take 36 (drop (i * 36) s)
+sourceAt i s = take sourceSize (drop (i * sourceSize) s)
 
 abbrev pub receiverAt : ℕ → List ℕ → List ℕ
-receiverAt j s = take 33 (drop (split + j * 33) s)
+receiverAt j s = take receiverSize (drop (split + j * receiverSize) s)
 
 abbrev pub laneBy : List ℕ → Lane
 laneBy v = record { used = eqb (at v 0) 1; source = sourceFrom v }

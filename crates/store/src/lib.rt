@@ -17,6 +17,27 @@ ghost use Rattle.level.specs.Level.{top};
 ghost use Rattle.store.specs.Account.{soundB, plusOf, minusOf, covers, roomB};
 ghost use Rattle.store.specs.Store.{storeLength, damaged, clearedBytes};
 
+// How many source slots and how many receiver slots a book has.
+pub const SOURCES: usize = 512;
+
+pub const RECEIVERS: usize = 64;
+
+// The bytes of a slot.
+pub const SOURCE_SIZE: usize = 36;
+
+pub const RECEIVER_SIZE: usize = 33;
+
+// The last slots, from slot 0 on.
+pub const LAST_SOURCE: u16 = (SOURCES - 1) as u16;
+
+pub const LAST_RECEIVER: u16 = (RECEIVERS - 1) as u16;
+
+// Where the receivers begin.
+pub const SPLIT: usize = SOURCES * SOURCE_SIZE;
+
+// The bytes of a store.
+pub const LENGTH: usize = SPLIT + RECEIVERS * RECEIVER_SIZE;
+
 // The most that a sum may be.
 const TOP: u64 = 512_000_000_000_000_000;
 
@@ -107,7 +128,7 @@ pub fn damaged(steps: &[u32; 1000], store: &[u8]) -> bool
     requires { ⌜ now steps ≡ table ⌝ }
     ensures { λ r. ⌜ r ≡ damaged (now (store .entry)) ⌝ }
 {
-    if store.len() != 20544 {
+    if store.len() != LENGTH {
         return true;
     }
     if sources::any_torn(steps, store) {

@@ -1,7 +1,10 @@
-// Receiver slots: 64 of 33 bytes, after the source slots.
+// Receiver slots, after the source slots.
 // Numbers are those of a slot, its use mark first.
 use crate::Account;
 use crate::Held;
+use crate::RECEIVER_SIZE;
+use crate::RECEIVERS;
+use crate::SPLIT;
 use crate::Seat;
 use crate::slot;
 use road::Receiver;
@@ -15,22 +18,19 @@ ghost use lib.ListN.{length, drop};
 ghost use Rattle.layout.specs.Layout.{fields};
 ghost use Rattle.layout.specs.Over.{over};
 ghost use Rattle.store.specs.Slots.{Fit, partyLayout, slotBy, slotBytes, found, isTorn, anyTorn};
-ghost use Rattle.store.specs.Store.{storeLength, split, heldParty, heldFrom, heldFields, receiverAt, seatOf, HeldStands};
+ghost use Rattle.store.specs.Store.{receiverCount, receiverSize, storeLength, split, heldParty, heldFrom, heldFields, receiverAt, seatOf, HeldStands};
 
 // The mark, then fields 2 to 4 of document 01, then the three sums.
 const WIDTHS: [u8; 7] = [8, 24, 24, 16, 64, 64, 64];
 
-// Where the receivers begin.
-const SPLIT: usize = 18432;
-
 // The numbers of slot j.
 fn numbers(store: &[u8], j: usize) -> [u64; 7]
-    requires { ⌜ (j < 64) × (length (now store) ≡ storeLength) ⌝ }
+    requires { ⌜ (j < receiverCount) × (length (now store) ≡ storeLength) ⌝ }
     ensures { λ r. ⌜ r ≡ fields (partyLayout heldParty) (receiverAt j (now (store .entry))) ⌝ }
 {
     let ws = WIDTHS;
     let mut v = [0u64; 7];
-    slot::get(store, SPLIT + j * 33, &ws, &mut v);
+    slot::get(store, SPLIT + j * RECEIVER_SIZE, &ws, &mut v);
     v
 }
 
@@ -54,7 +54,7 @@ fn held_from(v: &[u64; 7]) -> Held
 
 // Slot j as it stands.
 pub fn seat(store: &[u8], j: usize) -> Seat
-    requires { ⌜ (j < 64) × (length (now store) ≡ storeLength) ⌝ }
+    requires { ⌜ (j < receiverCount) × (length (now store) ≡ storeLength) ⌝ }
     ensures { λ r. ⌜ r ≡ seatOf (receiverAt j (now (store .entry))) ⌝ }
 {
     let v = numbers(store, j);
@@ -89,7 +89,7 @@ pub(crate) fn any_torn(store: &[u8]) -> bool
     ensures { λ r. ⌜ r ≡ anyTorn (found heldParty (drop split (now (store .entry)))) ⌝ }
 {
     let mut j = 0;
-    while j < 64 {
+    while j < RECEIVERS {
         let v = numbers(store, j);
         if torn(&v) {
             return true;
@@ -118,20 +118,20 @@ fn numbers_of(h: Held) -> [u64; 7]
 
 // Writes a receiver and its account into slot j.
 pub fn put_held(store: &mut [u8], j: usize, h: Held)
-    requires { ⌜ (j < 64) × (length (now store) ≡ storeLength) × HeldStands h ⌝ }
-    ensures { λ _. ⌜ now (store .exit) ≡ over (split + j * 33) (slotBytes heldParty (some h)) (now (store .entry)) ⌝ }
+    requires { ⌜ (j < receiverCount) × (length (now store) ≡ storeLength) × HeldStands h ⌝ }
+    ensures { λ _. ⌜ now (store .exit) ≡ over (split + j * receiverSize) (slotBytes heldParty (some h)) (now (store .entry)) ⌝ }
 {
     let ws = WIDTHS;
     let v = numbers_of(h);
-    slot::put(store, SPLIT + j * 33, &ws, &v);
+    slot::put(store, SPLIT + j * RECEIVER_SIZE, &ws, &v);
 }
 
 // Makes slot j all zero.
 pub fn drop_held(store: &mut [u8], j: usize)
-    requires { ⌜ (j < 64) × (length (now store) ≡ storeLength) ⌝ }
-    ensures { λ _. ⌜ now (store .exit) ≡ over (split + j * 33) (slotBytes heldParty none) (now (store .entry)) ⌝ }
+    requires { ⌜ (j < receiverCount) × (length (now store) ≡ storeLength) ⌝ }
+    ensures { λ _. ⌜ now (store .exit) ≡ over (split + j * receiverSize) (slotBytes heldParty none) (now (store .entry)) ⌝ }
 {
     let ws = WIDTHS;
     let v = [0u64; 7];
-    slot::put(store, SPLIT + j * 33, &ws, &v);
+    slot::put(store, SPLIT + j * RECEIVER_SIZE, &ws, &v);
 }

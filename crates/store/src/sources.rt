@@ -1,6 +1,8 @@
-// Source slots: 512 of 36 bytes, from the start of the store on.
+// Source slots, from the start of the store on.
 // Numbers are those of a slot, its use mark first.
 use crate::Lane;
+use crate::SOURCE_SIZE;
+use crate::SOURCES;
 use crate::slot;
 use road::Source;
 use road::Traffic;
@@ -16,7 +18,7 @@ ghost use Rattle.layout.specs.Over.{over};
 ghost use Rattle.road.specs.declared.Verdict.the-variants.{Allowed};
 ghost use Rattle.road.specs.Judge.{sourceFields, sourceVerdict};
 ghost use Rattle.store.specs.Slots.{Fit, partyLayout, slotBy, slotBytes, found, isTorn, anyTorn};
-ghost use Rattle.store.specs.Store.{storeLength, sourceParty, sourceFrom, sourceAt, laneOf};
+ghost use Rattle.store.specs.Store.{sourceCount, sourceSize, storeLength, sourceParty, sourceFrom, sourceAt, laneOf};
 
 // The mark, then fields 2 to 19 of document 01.
 const WIDTHS: [u8; 19] = [
@@ -43,22 +45,22 @@ const WIDTHS: [u8; 19] = [
 
 // The numbers of slot i.
 fn numbers(store: &[u8], i: usize) -> [u64; 19]
-    requires { ⌜ (i < 512) × (length (now store) ≡ storeLength) ⌝ }
+    requires { ⌜ (i < sourceCount) × (length (now store) ≡ storeLength) ⌝ }
     ensures { λ r. ⌜ r ≡ fields (partyLayout sourceParty) (sourceAt i (now (store .entry))) ⌝ }
 {
     let ws = WIDTHS;
     let mut v = [0u64; 19];
-    slot::get(store, i * 36, &ws, &mut v);
+    slot::get(store, i * SOURCE_SIZE, &ws, &mut v);
     v
 }
 
 // Whether the mark of slot i says used: a look at one byte, for walks over slots of which few are.
 pub fn marked(store: &[u8], i: usize) -> bool
-    requires { ⌜ (i < 512) × (length (now store) ≡ storeLength) ⌝ }
+    requires { ⌜ (i < sourceCount) × (length (now store) ≡ storeLength) ⌝ }
     ensures { λ r. ⌜ r ≡ laneOf (sourceAt i (now (store .entry))) .used ⌝ }
 {
-    let at = i * 36;
-    let mark = layout::field(&store[at..at + 36], 0, 8);
+    let at = i * SOURCE_SIZE;
+    let mark = layout::field(&store[at..at + SOURCE_SIZE], 0, 8);
     mark == 1
 }
 
@@ -99,7 +101,7 @@ fn source_from(v: &[u64; 19]) -> Source
 
 // Slot i as it stands.
 pub fn lane(store: &[u8], i: usize) -> Lane
-    requires { ⌜ (i < 512) × (length (now store) ≡ storeLength) ⌝ }
+    requires { ⌜ (i < sourceCount) × (length (now store) ≡ storeLength) ⌝ }
     ensures { λ r. ⌜ r ≡ laneOf (sourceAt i (now (store .entry))) ⌝ }
 {
     let v = numbers(store, i);
@@ -131,7 +133,7 @@ pub(crate) fn any_torn(steps: &[u32; 1000], store: &[u8]) -> bool
     ensures { λ r. ⌜ r ≡ anyTorn (found sourceParty (now (store .entry))) ⌝ }
 {
     let mut i = 0;
-    while i < 512 {
+    while i < SOURCES {
         let v = numbers(store, i);
         if torn(steps, &v) {
             return true;
@@ -157,20 +159,20 @@ fn numbers_of(s: Source) -> [u64; 19]
 
 // Writes a source into slot i.
 pub fn put_source(store: &mut [u8], i: usize, s: Source)
-    requires { ⌜ (i < 512) × (length (now store) ≡ storeLength) × (sourceVerdict s ≡ Allowed) ⌝ }
-    ensures { λ _. ⌜ now (store .exit) ≡ over (i * 36) (slotBytes sourceParty (some s)) (now (store .entry)) ⌝ }
+    requires { ⌜ (i < sourceCount) × (length (now store) ≡ storeLength) × (sourceVerdict s ≡ Allowed) ⌝ }
+    ensures { λ _. ⌜ now (store .exit) ≡ over (i * sourceSize) (slotBytes sourceParty (some s)) (now (store .entry)) ⌝ }
 {
     let ws = WIDTHS;
     let v = numbers_of(s);
-    slot::put(store, i * 36, &ws, &v);
+    slot::put(store, i * SOURCE_SIZE, &ws, &v);
 }
 
 // Makes slot i all zero.
 pub fn drop_source(store: &mut [u8], i: usize)
-    requires { ⌜ (i < 512) × (length (now store) ≡ storeLength) ⌝ }
-    ensures { λ _. ⌜ now (store .exit) ≡ over (i * 36) (slotBytes sourceParty none) (now (store .entry)) ⌝ }
+    requires { ⌜ (i < sourceCount) × (length (now store) ≡ storeLength) ⌝ }
+    ensures { λ _. ⌜ now (store .exit) ≡ over (i * sourceSize) (slotBytes sourceParty none) (now (store .entry)) ⌝ }
 {
     let ws = WIDTHS;
     let v = [0u64; 19];
-    slot::put(store, i * 36, &ws, &v);
+    slot::put(store, i * SOURCE_SIZE, &ws, &v);
 }

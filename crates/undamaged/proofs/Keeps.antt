@@ -12,11 +12,11 @@ use Rattle.road.specs.declared.Receiver.{Receiver}
 use Rattle.road.specs.declared.Verdict.{Verdict}
 use Rattle.road.specs.declared.Verdict.the-variants.{Allowed, Refused as Barring}
 use Rattle.road.specs.Reach.{sharesOf, pairOf}
-use Rattle.road.specs.Judge.{sourceVerdict, receiverVerdict, slotVerdict, lastSource, lastReceiver}
+use Rattle.road.specs.Judge.{sourceVerdict, receiverVerdict, slotVerdict}
 use Rattle.store.specs.declared.Held.{Held}
 use Rattle.store.specs.Slots.{Each}
-use Rattle.store.specs.Store.{Book, book, damaged, bookOf, SourceStands, HeldStands, SoundBook}
-use Rattle.store.proofs.Laws.{sound-book, book-bytes, sound-source, sound-held}
+use Rattle.store.specs.Store.{lastSource, lastReceiver, Book, book, damaged, bookOf, SourceStands, HeldStands, SoundBook}
+use Rattle.store.proofs.Laws.{many-sources, sound-book, book-bytes, sound-source, sound-held}
 use Rattle.undamaged.specs.declared.Answer.{Answer}
 use Rattle.ledger.specs.Lists.{omap, present, every, firstBar, weigh}
 use Rattle.undamaged.specs.Calls.{Step, refuse, tell, change, allow, intoFree, fromUsed, unlessBarred, unlessLate}
@@ -24,7 +24,7 @@ use Rattle.undamaged.specs.Calls.{more, less, hasRoom, canReturn, placeS
 use Rattle.road.proofs.Judged.{slot-allowed}
 use Rattle.ledger.proofs.Rounds.{and-both}
 use Rattle.undamaged.proofs.Rounded.{less-sound}
-use Rattle.undamaged.proofs.Sums.{never, lanes-are, bars-pass, weigh-sound}
+use Rattle.undamaged.proofs.Sums.{never, bars-pass, weigh-sound}
 
 -- ---- a book that a store can hold, or no change
 
@@ -107,7 +107,7 @@ module _ (b : Book) (h : SoundBook b) where
       let same : weigh (present (b .sources)) r ≡ a = cc in
       subst HeldStands same (
         slot-allowed lastReceiver j (receiverVerdict r) v .1,
-        weigh-sound (b .sources) r (h .lanes ∙ sym lanes-are) (bars-pass (λ (s : Source). pairOf s r) 0 (b .sources) o),
+        weigh-sound (b .sources) r (h .lanes ∙ sym many-sources) (bars-pass (λ (s : Source). pairOf s r) 0 (b .sources) o),
       )
       ))
 

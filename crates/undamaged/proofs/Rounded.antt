@@ -18,7 +18,7 @@ use Rattle.store.specs.declared.Held.{Held}
 use Rattle.store.specs.declared.Seat.{Seat}
 use Rattle.level.specs.Level.{top}
 use Rattle.store.specs.Account.{soundB, minusOf}
-use Rattle.store.specs.Store.{Book, HeldStands, SoundBook}
+use Rattle.store.specs.Store.{receiverCount, Book, HeldStands, SoundBook}
 use Rattle.store.proofs.Accounts.{sound-le}
 use Rattle.ledger.specs.declared.round.Stop.the-variants.{Nowhere, At}
 use Rattle.ledger.specs.declared.round.Round.{Round}
@@ -38,7 +38,7 @@ every-at p (some y ∷ l) e zero x q = let k : y ≡ x = cc in subst (λ (a : He
 every-at p (none ∷ l) e (suc j) x q = every-at p l e j x q
 every-at p (some y ∷ l) e (suc j) x q = every-at p l (and-both (p y) (every p (present l)) e .1) j x q
 
-seats-stand : (f : Held → Held) (l : List (Option Held)) → length l ≡ 64 → ((j : ℕ) (x : Held) → getD l j none ≡ some x → HeldStands (f x))
+seats-stand : (f : Held → Held) (l : List (Option Held)) → length l ≡ receiverCount → ((j : ℕ) (x : Held) → getD l j none ≡ some x → HeldStands (f x))
     → StandingSeats (map toSeat (map (omap f) l))
 seats-stand f l n h = record {
   count = length-map (map (omap f) l) toSeat ∙ length-map l (omap f) ∙ n;

@@ -1,4 +1,4 @@
--- What holds of each in a list, and the sums of an account: no bar means that every pair is heard, and no sum then passes 512·10^15.
+-- What holds of each in a list, and the sums of an account: no bar means that every pair is heard, and no sum then passes the most that it may be.
 -- Assumes nothing.
 use mathlib.Core.Path.{_≡_, refl, subst, _∙_}
 use mathlib.Core.Bool.{Bool, true, _&&_}
@@ -18,7 +18,8 @@ use Rattle.road.specs.Reach.{shareOf, sharesOf, pairOf}
 use Rattle.road.proofs.Pairs.{Sound, heard-is}
 use Rattle.level.specs.Level.{top}
 use Rattle.store.specs.Account.{soundB}
-use Rattle.store.specs.Store.{sourceSlots, receiverSlots}
+use Rattle.store.specs.Store.{sourceCount, sourceSlots}
+use Rattle.store.proofs.Laws.{many-sources}
 use Rattle.ledger.specs.Lists.{present, All, sumOf, orBar, firstBar, weigh}
 use Rattle.undamaged.specs.Calls.{isHeard}
 
@@ -41,14 +42,6 @@ module _ {A : Type 0} where
   sum-most f most [] h = zero-le
   sum-most f most (none ∷ l) h = omega (arith, sum-most f most l h, suc-mul (length l) most)
   sum-most f most (some a ∷ l) h = omega (arith, h .0, sum-most f most l (h .1), suc-mul (length l) most)
-
-pub lanes-are : sourceSlots ≡ 512
-unfolding sourceSlots
-lanes-are = refl
-
-pub seats-are : receiverSlots ≡ 64
-unfolding receiverSlots
-seats-are = refl
 
 -- ---- pairs that are heard
 
@@ -77,7 +70,7 @@ heard-sound s r = go (pairOf s r) refl
     go (Heard h) e t = let q = heard-is s r h e in rw (q .0) at (q .1)
     go (Barred b) e t = never cc
 
--- at most 512 sources of at most 10^15 each
+-- a source a slot at most, each of at most 10^15
 pub weigh-sound : (S : List (Option Source)) (r : Receiver) → length S ≡ sourceSlots
     → HearsAll (present S) r → soundB (weigh (present S) r .sums) ≡ true
 unfolding sharesOf
@@ -87,6 +80,7 @@ weigh-sound S r e p =
   where
     below : (k : ℕ) → ((s : Source) → isHeard (pairOf s r) ≡ true → shareOf s r k ≤ 1000000000000000) → leb (sumOf (λ s. shareOf s r k) (present S)) top ≡ true
     below k f =
-        let q : length S ≡ 512 = e ∙ lanes-are in
+        let q : length S ≡ sourceCount = e ∙ many-sources in
         let m = sum-most (λ s. shareOf s r k) 1000000000000000 S (all-map (λ s. isHeard (pairOf s r) ≡ true) (λ s. shareOf s r k ≤ 1000000000000000) f (present S) p) in
-        le-leb (sumOf (λ s. shareOf s r k) (present S)) top (subst (λ n. sumOf (λ s. shareOf s r k) (present S) ≤ n * 1000000000000000) q m)
+        let n : sumOf (λ s. shareOf s r k) (present S) ≤ sourceCount * 1000000000000000 = subst (λ n. sumOf (λ s. shareOf s r k) (present S) ≤ n * 1000000000000000) q m in
+        le-leb (sumOf (λ s. shareOf s r k) (present S)) top (omega (arith, n))

@@ -17,11 +17,11 @@ use Rattle.road.specs.declared.Verdict.{Verdict}
 use Rattle.road.specs.declared.Verdict.the-variants.{Allowed}
 use Rattle.road.specs.declared.Verdict.the-variants.{Refused as Barring}
 use Rattle.road.specs.Reach.{sharesOf, pairOf}
-use Rattle.road.specs.Judge.{sourceVerdict, receiverVerdict, slotVerdict, lastSource, lastReceiver}
+use Rattle.road.specs.Judge.{sourceVerdict, receiverVerdict, slotVerdict}
 use Rattle.index.specs.Index.{ldenOf, lnightOf}
 use Rattle.store.specs.declared.Held.{Held}
 use Rattle.store.specs.Account.{plusOf, minusOf, covers, roomB}
-use Rattle.store.specs.Store.{Book, book, damaged, bookOf, bookBytes, storeLength, clearedBytes}
+use Rattle.store.specs.Store.{lastSource, lastReceiver, Book, book, damaged, bookOf, bookBytes, storeLength, clearedBytes}
 use Rattle.ledger.specs.Lists.{omap, present, every, firstBar, weigh}
 use Rattle.undamaged.specs.declared.Answer.{Answer}
 use Rattle.undamaged.specs.declared.Answer.the-variants.{Done, Levels, Refused}

@@ -12,9 +12,9 @@ use Rattle.road.specs.declared.Receiver.{Receiver}
 use Rattle.road.specs.declared.Verdict.{Verdict}
 use Rattle.road.specs.declared.Verdict.the-variants.{Allowed, Refused}
 use Rattle.road.specs.Reach.{pairOf}
-use Rattle.road.specs.Judge.{sourceVerdict, receiverVerdict, slotVerdict, lastSource, lastReceiver}
+use Rattle.road.specs.Judge.{sourceVerdict, receiverVerdict, slotVerdict}
 use Rattle.store.specs.declared.Held.{Held}
-use Rattle.store.specs.Store.{Book}
+use Rattle.store.specs.Store.{lastSource, lastReceiver, Book}
 use Rattle.ledger.specs.Lists.{present, every, firstBar}
 use Rattle.undamaged.specs.Calls.{refuse, hasRoom, placeSource, placeReceiver}
 

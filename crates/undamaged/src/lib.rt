@@ -15,7 +15,7 @@ ghost use Prim.Native.Nat.{_<_};
 ghost use Rattle.level.specs.Table.{table};
 ghost use Rattle.road.specs.declared.Verdict.the-variants.{Allowed};
 ghost use Rattle.road.specs.Judge.{sourceVerdict, receiverVerdict};
-ghost use Rattle.store.specs.Store.{damaged, bookOf};
+ghost use Rattle.store.specs.Store.{sourceCount, receiverCount, damaged, bookOf};
 ghost use Rattle.undamaged.specs.Calls.{told, enterSource, leaveSource, enterReceiver, leaveReceiver, indicesAt, placeSource, withdrawSource, placeReceiver, withdrawReceiver, askReceiver};
 
 // What a call answers: done, the two indices of a receiver (L_DEN, then L_Night), or a refusal.
@@ -27,7 +27,7 @@ pub enum Answer {
 
 // Places a source whose fields and slot are allowed.
 fn enter_source(steps: &[u32; 1000], store: &mut [u8], i: usize, s: Source) -> Answer
-    requires { ⌜ (now steps ≡ table) × (damaged (now store) ≡ false) × (i < 512) × (sourceVerdict s ≡ Allowed) ⌝ }
+    requires { ⌜ (now steps ≡ table) × (damaged (now store) ≡ false) × (i < sourceCount) × (sourceVerdict s ≡ Allowed) ⌝ }
     ensures { λ r. ⌜ (r, now (store .exit)) ≡ told (now (store .entry)) (enterSource i s (bookOf (now (store .entry)))) ⌝ }
 {
     let lane = store::sources::lane(store, i);
@@ -57,7 +57,7 @@ pub fn place_source(steps: &[u32; 1000], store: &mut [u8], slot: u16, s: Source)
     ensures { λ r. ⌜ ((r, now (store .exit)) ≡ told (now (store .entry)) (placeSource slot s (bookOf (now (store .entry))))) × (damaged (now (store .exit)) ≡ false) ⌝ }
 {
     let fields = road::judge::judge_source(steps, s);
-    match road::judge::judge_slot(511, slot, fields) {
+    match road::judge::judge_slot(store::LAST_SOURCE, slot, fields) {
         Verdict::Refused(why) => Answer::Refused(why),
         Verdict::Allowed => enter_source(steps, store, slot as usize, s),
     }
@@ -65,7 +65,7 @@ pub fn place_source(steps: &[u32; 1000], store: &mut [u8], slot: u16, s: Source)
 
 // Withdraws the source of a slot that is allowed.
 fn leave_source(steps: &[u32; 1000], store: &mut [u8], i: usize) -> Answer
-    requires { ⌜ (now steps ≡ table) × (damaged (now store) ≡ false) × (i < 512) ⌝ }
+    requires { ⌜ (now steps ≡ table) × (damaged (now store) ≡ false) × (i < sourceCount) ⌝ }
     ensures { λ r. ⌜ (r, now (store .exit)) ≡ told (now (store .entry)) (leaveSource i (bookOf (now (store .entry)))) ⌝ }
 {
     let lane = store::sources::lane(store, i);
@@ -89,7 +89,7 @@ pub fn withdraw_source(steps: &[u32; 1000], store: &mut [u8], slot: u16) -> Answ
     requires { ⌜ (now steps ≡ table) × (damaged (now store) ≡ false) ⌝ }
     ensures { λ r. ⌜ ((r, now (store .exit)) ≡ told (now (store .entry)) (withdrawSource slot (bookOf (now (store .entry))))) × (damaged (now (store .exit)) ≡ false) ⌝ }
 {
-    match road::judge::judge_slot(511, slot, Verdict::Allowed) {
+    match road::judge::judge_slot(store::LAST_SOURCE, slot, Verdict::Allowed) {
         Verdict::Refused(why) => Answer::Refused(why),
         Verdict::Allowed => leave_source(steps, store, slot as usize),
     }
@@ -97,7 +97,7 @@ pub fn withdraw_source(steps: &[u32; 1000], store: &mut [u8], slot: u16) -> Answ
 
 // Places a receiver whose fields and slot are allowed.
 fn enter_receiver(steps: &[u32; 1000], store: &mut [u8], j: usize, r: Receiver) -> Answer
-    requires { ⌜ (now steps ≡ table) × (damaged (now store) ≡ false) × (j < 64) × (receiverVerdict r ≡ Allowed) ⌝ }
+    requires { ⌜ (now steps ≡ table) × (damaged (now store) ≡ false) × (j < receiverCount) × (receiverVerdict r ≡ Allowed) ⌝ }
     ensures { λ a. ⌜ (a, now (store .exit)) ≡ told (now (store .entry)) (enterReceiver j r (bookOf (now (store .entry)))) ⌝ }
 {
     let seat = store::receivers::seat(store, j);
@@ -123,7 +123,7 @@ pub fn place_receiver(steps: &[u32; 1000], store: &mut [u8], slot: u16, r: Recei
     ensures { λ a. ⌜ ((a, now (store .exit)) ≡ told (now (store .entry)) (placeReceiver slot r (bookOf (now (store .entry))))) × (damaged (now (store .exit)) ≡ false) ⌝ }
 {
     let fields = road::judge::judge_receiver(r);
-    match road::judge::judge_slot(63, slot, fields) {
+    match road::judge::judge_slot(store::LAST_RECEIVER, slot, fields) {
         Verdict::Refused(why) => Answer::Refused(why),
         Verdict::Allowed => enter_receiver(steps, store, slot as usize, r),
     }
@@ -131,7 +131,7 @@ pub fn place_receiver(steps: &[u32; 1000], store: &mut [u8], slot: u16, r: Recei
 
 // Withdraws the receiver of a slot that is allowed.
 fn leave_receiver(store: &mut [u8], j: usize) -> Answer
-    requires { ⌜ (damaged (now store) ≡ false) × (j < 64) ⌝ }
+    requires { ⌜ (damaged (now store) ≡ false) × (j < receiverCount) ⌝ }
     ensures { λ r. ⌜ (r, now (store .exit)) ≡ told (now (store .entry)) (leaveReceiver j (bookOf (now (store .entry)))) ⌝ }
 {
     let seat = store::receivers::seat(store, j);
@@ -147,7 +147,7 @@ pub fn withdraw_receiver(store: &mut [u8], slot: u16) -> Answer
     requires { ⌜ damaged (now store) ≡ false ⌝ }
     ensures { λ r. ⌜ ((r, now (store .exit)) ≡ told (now (store .entry)) (withdrawReceiver slot (bookOf (now (store .entry))))) × (damaged (now (store .exit)) ≡ false) ⌝ }
 {
-    match road::judge::judge_slot(63, slot, Verdict::Allowed) {
+    match road::judge::judge_slot(store::LAST_RECEIVER, slot, Verdict::Allowed) {
         Verdict::Refused(why) => Answer::Refused(why),
         Verdict::Allowed => leave_receiver(store, slot as usize),
     }
@@ -155,7 +155,7 @@ pub fn withdraw_receiver(store: &mut [u8], slot: u16) -> Answer
 
 // The indices of the receiver of a slot that is allowed.
 fn indices(steps: &[u32; 1000], store: &[u8], j: usize) -> Answer
-    requires { ⌜ (now steps ≡ table) × (damaged (now store) ≡ false) × (j < 64) ⌝ }
+    requires { ⌜ (now steps ≡ table) × (damaged (now store) ≡ false) × (j < receiverCount) ⌝ }
     ensures { λ r. ⌜ (r, now (store .entry)) ≡ told (now (store .entry)) (indicesAt j (bookOf (now (store .entry)))) ⌝ }
 {
     let seat = store::receivers::seat(store, j);
@@ -174,7 +174,7 @@ pub fn ask(steps: &[u32; 1000], store: &[u8], slot: u16) -> Answer
     requires { ⌜ (now steps ≡ table) × (damaged (now store) ≡ false) ⌝ }
     ensures { λ r. ⌜ (r, now (store .entry)) ≡ told (now (store .entry)) (askReceiver slot (bookOf (now (store .entry)))) ⌝ }
 {
-    match road::judge::judge_slot(63, slot, Verdict::Allowed) {
+    match road::judge::judge_slot(store::LAST_RECEIVER, slot, Verdict::Allowed) {
         Verdict::Refused(why) => Answer::Refused(why),
         Verdict::Allowed => indices(steps, store, slot as usize),
     }

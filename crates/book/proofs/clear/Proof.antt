@@ -13,7 +13,7 @@ use Rattle.book.proofs.clear.Tie as tie
 
 returns : tie.Need-returns
 unfolding clearStore storeLength
-returns c = rw (ne-eqb (length (c .before .before .args .store .now)) 20544 (c .if1 .taken), clearStore)
+returns c = rw (ne-eqb (length (c .before .before .args .store .now)) storeLength (c .if1 .taken), clearStore)
 
 wipe-requires : tie.Need-wipe-requires
 unfolding storeLength
@@ -26,7 +26,7 @@ returns-2 : tie.Need-returns-2
 unfolding clearStore storeLength
 returns-2 c =
     let s = c .before .before .before .before .before .before .args .store .now in
-    rw (eq-eqb (length s) 20544 (c .before .before .before .before .if1 .left), clearStore) (ap (λ (t : List ℕ). (Done, t)) (c .before .before .wipe .ensures))
+    rw (eq-eqb (length s) storeLength (c .before .before .before .before .if1 .left), clearStore) (ap (λ (t : List ℕ). (Done, t)) (c .before .before .wipe .ensures))
 
 pub clear-spec : {M : Type 1} → statement M
 clear-spec = tie.close (tie.spec returns wipe-requires same-length returns-2)

@@ -1,6 +1,5 @@
 -- `main` lends a store of the right length and two large buffers. Assumes nothing.
 use borrow.Author.Needs.{needs}
-use Rattle.store.specs.Store.{storeLength}
 use Rattle.job.proofs.main.Statement.{statement}
 use Rattle.job.proofs.main.Tie as tie
 
@@ -26,7 +25,6 @@ slice-aggregate-run-3 : tie.Need-slice-aggregate-run-3
 slice-aggregate-run-3 c = search needs
 
 run-requires : tie.Need-run-requires
-unfolding storeLength
 run-requires c κs = search needs
 
 returns : tie.Need-returns

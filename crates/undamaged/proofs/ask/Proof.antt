@@ -5,7 +5,7 @@ use native.Mathlib.Omega.{arith}
 use borrow.Author.Needs.{needs}
 use Rattle.road.specs.declared.Verdict.{Verdict}
 use Rattle.road.specs.declared.Verdict.the-variants.{Allowed}
-use Rattle.store.specs.Store.{bookOf}
+use Rattle.store.specs.Store.{lastReceiver, bookOf}
 use Rattle.undamaged.specs.Calls.{told, allow, indicesAt, askReceiver}
 use Rattle.road.proofs.Judged.{slot-allowed}
 use Rattle.undamaged.proofs.ask.Statement.{statement}
@@ -24,7 +24,7 @@ indices-requires : tie.Need-indices-requires
 indices-requires c κs =
     let j = c .before .before in
     let start = j .before .before in
-    (start .pre .0, start .pre .1, omega (arith, slot-allowed 63 (start .args .slot) Allowed (sym (j .judge-slot .ensures) ∙ c .enum-told .given .1) .0))
+    (start .pre .0, start .pre .1, omega (arith, slot-allowed lastReceiver (start .args .slot) Allowed (sym (j .judge-slot .ensures) ∙ c .enum-told .given .1) .0))
 
 returns : tie.Need-returns
 unfolding askReceiver

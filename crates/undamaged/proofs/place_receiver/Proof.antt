@@ -5,7 +5,7 @@ use native.Mathlib.Omega.{arith}
 use borrow.Author.Needs.{needs}
 use Rattle.road.specs.declared.Verdict.{Verdict}
 use Rattle.road.specs.Judge.{slotVerdict}
-use Rattle.store.specs.Store.{bookOf}
+use Rattle.store.specs.Store.{lastReceiver, bookOf}
 use Rattle.undamaged.specs.Calls.{told, allow, enterReceiver, placeReceiver}
 use Rattle.road.proofs.Judged.{slot-allowed}
 use Rattle.undamaged.proofs.Keeps.{receiver-in-kept}
@@ -29,7 +29,7 @@ enter-receiver-requires c κs =
     let j = c .before .before .before in
     let f = j .before in
     let start = f .before .before in
-    let fine = slot-allowed 63 (start .args .slot) (f .judge-receiver .result) (sym (j .judge-slot .ensures) ∙ c .before .enum-told .given .1) in
+    let fine = slot-allowed lastReceiver (start .args .slot) (f .judge-receiver .result) (sym (j .judge-slot .ensures) ∙ c .before .enum-told .given .1) in
     (start .pre .0, start .pre .1, omega (arith, fine .0), sym (f .judge-receiver .ensures) ∙ fine .1)
 
 returns : tie.Need-returns
@@ -41,7 +41,7 @@ returns c =
     let s = start .args .store .now in
     let e =
     ap (λ (v : Verdict). told s (allow v (enterReceiver (start .args .slot) (start .args .r) (bookOf s))))
-    (sym (c .before .why .given .1) ∙ j .judge-slot .ensures ∙ ap (slotVerdict 63 (start .args .slot)) (f .judge-receiver .ensures)) in
+    (sym (c .before .why .given .1) ∙ j .judge-slot .ensures ∙ ap (slotVerdict lastReceiver (start .args .slot)) (f .judge-receiver .ensures)) in
     (e, receiver-in-kept s (start .pre .1) (start .args .slot) (start .args .r) e)
 
 same-length : tie.Need-same-length
@@ -57,7 +57,7 @@ returns-2 c =
     let e =
     c .before .before .enter-receiver .ensures
     ∙ ap (λ (v : Verdict). told s (allow v (enterReceiver (start .args .slot) (start .args .r) (bookOf s))))
-    (sym (c .before .before .before .before .enum-told .given .1) ∙ j .judge-slot .ensures ∙ ap (slotVerdict 63 (start .args .slot)) (f .judge-receiver .ensures)) in
+    (sym (c .before .before .before .before .enum-told .given .1) ∙ j .judge-slot .ensures ∙ ap (slotVerdict lastReceiver (start .args .slot)) (f .judge-receiver .ensures)) in
     (e, receiver-in-kept s (start .pre .1) (start .args .slot) (start .args .r) e)
 
 pub place-receiver-spec : {M : Type 1} → statement M

@@ -5,7 +5,7 @@ use native.Mathlib.Omega.{arith}
 use borrow.Author.Needs.{needs}
 use Rattle.road.specs.declared.Verdict.{Verdict}
 use Rattle.road.specs.Judge.{slotVerdict}
-use Rattle.store.specs.Store.{bookOf}
+use Rattle.store.specs.Store.{lastSource, bookOf}
 use Rattle.undamaged.specs.Calls.{told, allow, enterSource, placeSource}
 use Rattle.road.proofs.Judged.{slot-allowed}
 use Rattle.road.proofs.Periods.{owned-periods}
@@ -30,7 +30,7 @@ enter-source-requires c κs =
     let j = c .before .before .before in
     let f = j .before in
     let start = f .before .before in
-    let fine = slot-allowed 511 (start .args .slot) (f .judge-source .result) (sym (j .judge-slot .ensures) ∙ c .before .enum-told .given .1) in
+    let fine = slot-allowed lastSource (start .args .slot) (f .judge-source .result) (sym (j .judge-slot .ensures) ∙ c .before .enum-told .given .1) in
     (start .pre .0, start .pre .1, omega (arith, fine .0), sym (f .judge-source .ensures) ∙ fine .1)
 
 returns : tie.Need-returns
@@ -42,7 +42,7 @@ returns c =
     let s = start .args .store .now in
     let e =
     ap (λ (v : Verdict). told s (allow v (enterSource (start .args .slot) (start .args .s) (bookOf s))))
-    (sym (c .before .why .given .1) ∙ j .judge-slot .ensures ∙ ap (slotVerdict 511 (start .args .slot)) (f .judge-source .ensures)) in
+    (sym (c .before .why .given .1) ∙ j .judge-slot .ensures ∙ ap (slotVerdict lastSource (start .args .slot)) (f .judge-source .ensures)) in
     (e, source-in-kept s (start .pre .1) (start .args .slot) (start .args .s) (owned-periods (start .args .s) _ (start .good .1 .1 .1 .0)) e)
 
 same-length : tie.Need-same-length
@@ -58,7 +58,7 @@ returns-2 c =
     let e =
     c .before .before .enter-source .ensures
     ∙ ap (λ (v : Verdict). told s (allow v (enterSource (start .args .slot) (start .args .s) (bookOf s))))
-    (sym (c .before .before .before .before .enum-told .given .1) ∙ j .judge-slot .ensures ∙ ap (slotVerdict 511 (start .args .slot)) (f .judge-source .ensures)) in
+    (sym (c .before .before .before .before .enum-told .given .1) ∙ j .judge-slot .ensures ∙ ap (slotVerdict lastSource (start .args .slot)) (f .judge-source .ensures)) in
     (e, source-in-kept s (start .pre .1) (start .args .slot) (start .args .s) (owned-periods (start .args .s) _ (start .good .1 .1 .1 .0)) e)
 
 pub place-source-spec : {M : Type 1} → statement M

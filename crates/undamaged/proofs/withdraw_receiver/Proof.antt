@@ -5,7 +5,7 @@ use native.Mathlib.Omega.{arith}
 use borrow.Author.Needs.{needs}
 use Rattle.road.specs.declared.Verdict.{Verdict}
 use Rattle.road.specs.declared.Verdict.the-variants.{Allowed}
-use Rattle.store.specs.Store.{bookOf}
+use Rattle.store.specs.Store.{lastReceiver, bookOf}
 use Rattle.undamaged.specs.Calls.{told, allow, leaveReceiver, withdrawReceiver}
 use Rattle.road.proofs.Judged.{slot-allowed}
 use Rattle.undamaged.proofs.Keeps.{receiver-out-kept}
@@ -25,7 +25,7 @@ leave-receiver-requires : tie.Need-leave-receiver-requires
 leave-receiver-requires c κs =
     let j = c .before .before .before in
     let start = j .before .before in
-    (start .pre, omega (arith, slot-allowed 63 (start .args .slot) Allowed (sym (j .judge-slot .ensures) ∙ c .before .enum-told .given .1) .0))
+    (start .pre, omega (arith, slot-allowed lastReceiver (start .args .slot) Allowed (sym (j .judge-slot .ensures) ∙ c .before .enum-told .given .1) .0))
 
 returns : tie.Need-returns
 unfolding withdrawReceiver

@@ -5,7 +5,7 @@ use native.Mathlib.Omega.{arith}
 use borrow.Author.Needs.{needs}
 use Rattle.road.specs.declared.Verdict.{Verdict}
 use Rattle.road.specs.declared.Verdict.the-variants.{Allowed}
-use Rattle.store.specs.Store.{bookOf}
+use Rattle.store.specs.Store.{lastSource, bookOf}
 use Rattle.undamaged.specs.Calls.{told, allow, leaveSource, withdrawSource}
 use Rattle.road.proofs.Judged.{slot-allowed}
 use Rattle.undamaged.proofs.Keeps.{source-out-kept}
@@ -25,7 +25,7 @@ leave-source-requires : tie.Need-leave-source-requires
 leave-source-requires c κs =
     let j = c .before .before .before in
     let start = j .before .before in
-    (start .pre .0, start .pre .1, omega (arith, slot-allowed 511 (start .args .slot) Allowed (sym (j .judge-slot .ensures) ∙ c .before .enum-told .given .1) .0))
+    (start .pre .0, start .pre .1, omega (arith, slot-allowed lastSource (start .args .slot) Allowed (sym (j .judge-slot .ensures) ∙ c .before .enum-told .given .1) .0))
 
 returns : tie.Need-returns
 unfolding withdrawSource

@@ -1,9 +1,9 @@
 -- `verdict` judges the slot of a call, then what else it has.
 -- Assumes nothing.
 use mathlib.Core.Path.{sym, ap, _∙_}
-use Rattle.road.specs.Judge.{slotVerdict, lastSource, lastReceiver}
+use Rattle.road.specs.Judge.{slotVerdict}
 use Rattle.codec.specs.declared.Request.{Request}
-use Rattle.codec.specs.Kinds.{verdictOf}
+use Rattle.codec.specs.Kinds.{lastNamedSource, lastNamedReceiver, verdictOf}
 use borrow.Author.Needs.{needs}
 use Rattle.codec.proofs.kinds.verdict.Statement.{statement}
 use Rattle.codec.proofs.kinds.verdict.Tie as tie
@@ -47,7 +47,7 @@ judge-slot-requires-5 c κs = search needs
 returns : tie.Need-returns
 unfolding verdictOf
 returns c =
-    c .judge-slot .ensures ∙ ap (slotVerdict lastReceiver (c .before .before .before .call .given .0 .0)) (c .before .judge-receiver .ensures)
+    c .judge-slot .ensures ∙ ap (slotVerdict lastNamedReceiver (c .before .before .before .call .given .0 .0)) (c .before .judge-receiver .ensures)
     ∙ ap (λ (x : Request). verdictOf x (c .before .before .before .before .before .args .source)) (sym (c .before .before .before .call .given .1))
 
 returns-2 : tie.Need-returns-2
@@ -58,7 +58,7 @@ returns-2 c =
 returns-3 : tie.Need-returns-3
 unfolding verdictOf
 returns-3 c =
-    c .judge-slot3 .ensures ∙ ap (slotVerdict lastSource (c .before .before .before .call3 .given .0 .0)) (c .before .judge-source .ensures)
+    c .judge-slot3 .ensures ∙ ap (slotVerdict lastNamedSource (c .before .before .before .call3 .given .0 .0)) (c .before .judge-source .ensures)
     ∙ ap (λ (x : Request). verdictOf x (c .before .before .before .before .before .args .source)) (sym (c .before .before .before .call3 .given .1))
 
 returns-4 : tie.Need-returns-4

@@ -17,7 +17,7 @@ use Rattle.road.specs.declared.Pair.the-variants.{Barred as Bars}
 use Rattle.road.specs.Reach.{pairOf}
 use Rattle.store.specs.declared.Account.{Account}
 use Rattle.store.specs.Account.{plusOf}
-use Rattle.store.specs.Store.{bookOf}
+use Rattle.store.specs.Store.{sourceCount, bookOf}
 use Rattle.store.proofs.Laws.{sound-book}
 use Rattle.ledger.specs.declared.gather.Offer.{Offer}
 use Rattle.ledger.specs.declared.gather.Offer.the-variants.{Free as Nobody, Heard as Brings, Barred as Stops}
@@ -53,10 +53,10 @@ stops r (some s) b e = go (pairOf s r) refl e
     go (Bars d) q f = (s, refl, q ∙ (let w : Stops d ≡ Stops b = sym (ap offerBy q) ∙ f in let k : d ≡ b = cc in ap Bars k))
 
 abbrev Inv-loop : tie.InvT-loop
-Inv-loop steps store r sums₀ i₀ sums i = (i ≤ 512) × Gathers r (bookOf store .sources) sums i
+Inv-loop steps store r sums₀ i₀ sums i = (i ≤ sourceCount) × Gathers r (bookOf store .sources) sums i
 
 abbrev μ-loop : tie.MeasureT-loop
-μ-loop steps store r sums₀ i₀ sums i = 512 - i
+μ-loop steps store r sums₀ i₀ sums i = sourceCount - i
 
 loop-holds : tie.Need-loop-holds Inv-loop μ-loop
 loop-holds c = (omega arith, gather-begun (c .before .args .r) (bookOf (c .before .args .store .now) .sources))
@@ -64,7 +64,7 @@ loop-holds c = (omega arith, gather-begun (c .before .args .r) (bookOf (c .befor
 hear-source-requires : tie.Need-hear-source-requires Inv-loop μ-loop
 hear-source-requires c κs = let start = c .before .before .before in (start .pre .0, start .pre .1, c .loop-test .taken, start .pre .2)
 
--- the turn's slot is one of the 512
+-- the turn's slot is one of the book's
 within : (c : tie.After-hear-source Inv-loop μ-loop) → c .before .before .loop .i < length (bookOf (c .before .before .before .before .args .store .now) .sources)
 within c =
     let start = c .before .before .before .before in

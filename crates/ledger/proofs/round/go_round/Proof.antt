@@ -8,7 +8,7 @@ use mathlib.Core.List.{List}
 use borrow.Author.Needs.{needs}
 use lib.ListN.{getD, length}
 use Rattle.store.specs.declared.Held.{Held}
-use Rattle.store.specs.Store.{bookOf}
+use Rattle.store.specs.Store.{receiverCount, bookOf}
 use Rattle.store.proofs.Laws.{undamaged, sound-book}
 use Rattle.ledger.specs.declared.round.Stop.the-variants.{At}
 use Rattle.ledger.specs.Ledger.{turnOf}
@@ -18,10 +18,10 @@ use Rattle.ledger.proofs.round.go_round.Statement.{statement}
 use Rattle.ledger.proofs.round.go_round.Tie as tie
 
 abbrev Inv-loop : tie.InvT-loop
-Inv-loop steps store s voices adding seats₀ late₀ j₀ seats late j = (j ≤ 64) × Rounding (turnOf adding s) (bookOf store .receivers) late seats j
+Inv-loop steps store s voices adding seats₀ late₀ j₀ seats late j = (j ≤ receiverCount) × Rounding (turnOf adding s) (bookOf store .receivers) late seats j
 
 abbrev μ-loop : tie.MeasureT-loop
-μ-loop steps store s voices adding seats₀ late₀ j₀ seats late j = 64 - j
+μ-loop steps store s voices adding seats₀ late₀ j₀ seats late j = receiverCount - j
 
 vacant-requires : tie.Need-vacant-requires Inv-loop μ-loop
 vacant-requires c κs = search needs
@@ -36,13 +36,13 @@ seat-requires c κs =
     let start = c .before .before .before .before in
     (omega (arith, c .loop-test .taken), undamaged (start .args .store .now) (start .pre .1) .0)
 
--- the slot is one of the 64
+-- the slot is one of the book's
 within : (t : tie.After-seat Inv-loop μ-loop) → t .before .before .loop .j < length (bookOf (t .before .before .before .before .before .args .store .now) .receivers)
 within t =
     let start = t .before .before .before .before .before in
     omega (arith, sound-book (start .args .store .now) (start .pre .1) .seats, t .before .loop-test .taken)
 
-inside : (t : tie.After-seat Inv-loop μ-loop) → t .before .before .loop .j < 64
+inside : (t : tie.After-seat Inv-loop μ-loop) → t .before .before .loop .j < receiverCount
 inside t = omega (arith, t .before .loop-test .taken)
 
 meet-requires : tie.Need-meet-requires Inv-loop μ-loop

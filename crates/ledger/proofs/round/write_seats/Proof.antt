@@ -11,7 +11,7 @@ use lib.Seq.{take-all}
 use native.Mathlib.Numerals.{add-one}
 use Rattle.store.specs.declared.Held.{Held}
 use Rattle.store.specs.declared.Seat.{Seat}
-use Rattle.store.specs.Store.{book, bookOf}
+use Rattle.store.specs.Store.{receiverCount, book, bookOf}
 use Rattle.store.proofs.Laws.{Holds, sound-book, undamaged}
 use Rattle.ledger.specs.Ledger.{seated, vacant}
 use Rattle.ledger.proofs.Seats.{seated-next, seat-holds}
@@ -19,10 +19,10 @@ use Rattle.ledger.proofs.round.write_seats.Statement.{statement}
 use Rattle.ledger.proofs.round.write_seats.Tie as tie
 
 abbrev Inv-loop : tie.InvT-loop
-Inv-loop store₀ seats k₀ store k = (k ≤ 64) × Holds store (book (bookOf store₀ .sources) (seated (take k seats) (bookOf store₀ .receivers)))
+Inv-loop store₀ seats k₀ store k = (k ≤ receiverCount) × Holds store (book (bookOf store₀ .sources) (seated (take k seats) (bookOf store₀ .receivers)))
 
 abbrev μ-loop : tie.MeasureT-loop
-μ-loop store₀ seats k₀ store k = 64 - k
+μ-loop store₀ seats k₀ store k = receiverCount - k
 
 loop-holds : tie.Need-loop-holds Inv-loop μ-loop
 unfolding seated

@@ -8,7 +8,7 @@ use borrow.Author.Needs.{needs}
 use denote.Ref.{now}
 use lib.ListN.{drop}
 use Rattle.store.specs.Slots.{partyLayout, slotBy, slotOf, isTorn}
-use Rattle.store.specs.Store.{receiverSlots, split, heldParty, receiverAt}
+use Rattle.store.specs.Store.{receiverCount, receiverSlots, split, heldParty, receiverAt}
 use Rattle.store.proofs.Slots.{Sought, fields-fit, seek-start, seek-hit, seek-on, seek-end}
 use Rattle.store.proofs.Laws.{seat-place}
 use Rattle.store.proofs.receivers.any_torn.Statement.{statement}
@@ -18,7 +18,7 @@ abbrev Inv-loop : tie.InvT-loop
 Inv-loop store j₀ j = Sought heldParty receiverSlots (drop split store) j
 
 abbrev μ-loop : tie.MeasureT-loop
-μ-loop store j₀ j = 64 - j
+μ-loop store j₀ j = receiverCount - j
 
 loop-holds : tie.Need-loop-holds Inv-loop μ-loop
 loop-holds c = seek-start heldParty receiverSlots _

@@ -7,7 +7,7 @@ use denote.Ref.{now}
 use Prim.Native.Nat.{ℕ}
 use Rattle.layout.specs.Over.{over}
 use Rattle.store.specs.Slots.{partyLayout, slotBytes}
-use Rattle.store.specs.Store.{storeLength, split, heldParty}
+use Rattle.store.specs.Store.{receiverSize, storeLength, split, heldParty}
 use mathlib.Core.Path.{refl, ap, _∙_}
 use Rattle.layout.proofs.Laws.{packed-zeros}
 use Rattle.store.proofs.Slots.{zeros-within}
@@ -38,7 +38,7 @@ returns : tie.Need-returns
 unfolding slotBytes split
 returns c =
     let z = c .before .before .before .before .before .before .before in
-    c .before .before .put .ensures ∙ ap (λ (t : List ℕ). over (split + z .args .j * 33) t (now (z .args .store))) (packed-zeros (partyLayout heldParty))
+    c .before .before .put .ensures ∙ ap (λ (t : List ℕ). over (split + z .args .j * receiverSize) t (now (z .args .store))) (packed-zeros (partyLayout heldParty))
 
 pub drop-held-spec : {M : Type 1} → statement M
 drop-held-spec =

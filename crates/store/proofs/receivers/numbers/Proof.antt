@@ -7,7 +7,7 @@ use denote.Ref.{now}
 use lib.ListN.{drop}
 use Rattle.layout.proofs.Laws.{fields-front}
 use Rattle.store.specs.Slots.{partyLayout}
-use Rattle.store.specs.Store.{storeLength, split, heldParty}
+use Rattle.store.specs.Store.{receiverSize, storeLength, split, heldParty}
 use borrow.Author.Needs.{needs}
 use Rattle.store.proofs.receivers.numbers.Statement.{statement}
 use Rattle.store.proofs.receivers.numbers.Tie as tie
@@ -32,7 +32,7 @@ returns : tie.Need-returns
 unfolding split
 returns c =
     let z = c .before .before .before .before .before in
-    c .before .get .ensures ∙ sym (fields-front (partyLayout heldParty) (drop (split + z .args .j * 33) (now (z .args .store))))
+    c .before .get .ensures ∙ sym (fields-front (partyLayout heldParty) (drop (split + z .args .j * receiverSize) (now (z .args .store))))
 
 pub numbers-spec : {M : Type 1} → statement M
 numbers-spec =

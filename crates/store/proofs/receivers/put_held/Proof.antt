@@ -9,7 +9,7 @@ use Prim.Native.Nat.{ℕ}
 use Rattle.layout.specs.Layout.{Within, packed}
 use Rattle.layout.specs.Over.{over}
 use Rattle.store.specs.Slots.{partyLayout, slotBytes}
-use Rattle.store.specs.Store.{storeLength, split, heldParty}
+use Rattle.store.specs.Store.{receiverSize, storeLength, split, heldParty}
 use Rattle.store.proofs.Parties.{held-fits}
 use borrow.Author.Needs.{needs}
 use Rattle.store.proofs.receivers.put_held.Statement.{statement}
@@ -44,7 +44,7 @@ unfolding slotBytes split
 returns c =
     let z = c .before .before .before .before .before .before .before .before in
     c .before .before .put .ensures
-    ∙ ap (λ (v : List ℕ). over (split + z .args .j * 33) (packed (partyLayout heldParty) v) (now (z .args .store))) (c .before .before .before .before .before .before .numbers-of .ensures)
+    ∙ ap (λ (v : List ℕ). over (split + z .args .j * receiverSize) (packed (partyLayout heldParty) v) (now (z .args .store))) (c .before .before .before .before .before .before .numbers-of .ensures)
 
 pub put-held-spec : {M : Type 1} → statement M
 put-held-spec =

@@ -7,7 +7,7 @@ use native.Mathlib.Omega.{arith}
 use borrow.Author.Needs.{needs}
 use denote.Ref.{now}
 use Rattle.store.specs.Slots.{partyLayout, slotBy, slotOf, isTorn}
-use Rattle.store.specs.Store.{sourceSlots, sourceParty, sourceAt}
+use Rattle.store.specs.Store.{sourceCount, sourceSlots, sourceParty, sourceAt}
 use Rattle.store.proofs.Slots.{Sought, fields-fit, seek-start, seek-hit, seek-on, seek-end}
 use Rattle.store.proofs.sources.any_torn.Statement.{statement}
 use Rattle.store.proofs.sources.any_torn.Tie as tie
@@ -16,7 +16,7 @@ abbrev Inv-loop : tie.InvT-loop
 Inv-loop steps store i₀ i = Sought sourceParty sourceSlots store i
 
 abbrev μ-loop : tie.MeasureT-loop
-μ-loop steps store i₀ i = 512 - i
+μ-loop steps store i₀ i = sourceCount - i
 
 loop-holds : tie.Need-loop-holds Inv-loop μ-loop
 loop-holds c = seek-start sourceParty sourceSlots _

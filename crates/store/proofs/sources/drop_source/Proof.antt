@@ -7,7 +7,7 @@ use denote.Ref.{now}
 use Prim.Native.Nat.{ℕ}
 use Rattle.layout.specs.Over.{over}
 use Rattle.store.specs.Slots.{partyLayout, slotBytes}
-use Rattle.store.specs.Store.{storeLength, sourceParty}
+use Rattle.store.specs.Store.{sourceSize, storeLength, sourceParty}
 use mathlib.Core.Path.{refl, ap, _∙_}
 use Rattle.layout.proofs.Laws.{packed-zeros}
 use Rattle.store.proofs.Slots.{zeros-within}
@@ -35,7 +35,7 @@ returns : tie.Need-returns
 unfolding slotBytes
 returns c =
     let z = c .before .before .before .before .before .before .before in
-    c .before .before .put .ensures ∙ ap (λ (t : List ℕ). over (z .args .i * 36) t (now (z .args .store))) (packed-zeros (partyLayout sourceParty))
+    c .before .before .put .ensures ∙ ap (λ (t : List ℕ). over (z .args .i * sourceSize) t (now (z .args .store))) (packed-zeros (partyLayout sourceParty))
 
 pub drop-source-spec : {M : Type 1} → statement M
 drop-source-spec =

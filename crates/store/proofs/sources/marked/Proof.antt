@@ -12,18 +12,18 @@ use Rattle.layout.specs.Layout.{bits, Bytes}
 use Rattle.layout.proofs.Numbers.{bytes-take, bytes-drop}
 use Rattle.layout.proofs.Laws.{field-bits}
 use Rattle.store.specs.Slots.{partyLayout}
-use Rattle.store.specs.Store.{storeLength, sourceParty, sourceAt, laneOf}
+use Rattle.store.specs.Store.{sourceCount, sourceSize, storeLength, sourceParty, sourceAt, laneOf}
 use borrow.Author.Needs.{needs}
 use Rattle.store.proofs.sources.marked.Statement.{statement}
 use Rattle.store.proofs.sources.marked.Tie as tie
 
 -- the mark is the first eight bits of the slot
-mark-is : (s : List ℕ) (i n : ℕ) → Bytes s → i < 512 → length s ≡ storeLength → n ≡ bits 0 8 (sourceAt i s) → eqb n 1 ≡ laneOf (sourceAt i s) .used
+mark-is : (s : List ℕ) (i n : ℕ) → Bytes s → i < sourceCount → length s ≡ storeLength → n ≡ bits 0 8 (sourceAt i s) → eqb n 1 ≡ laneOf (sourceAt i s) .used
 unfolding laneOf storeLength
 mark-is s i n b h l e =
-    let k : length (sourceAt i s) ≡ 36 = length-take-le 36 (drop (i * 36) s) (omega (arith, length-drop (i * 36) s)) in
+    let k : length (sourceAt i s) ≡ sourceSize = length-take-le sourceSize (drop (i * sourceSize) s) (omega (arith, length-drop (i * sourceSize) s)) in
     ap (λ (m : ℕ). eqb m 1)
-    (e ∙ sym (field-bits (partyLayout sourceParty) (sourceAt i s) 0 refl (omega (arith, k)) (bytes-take 36 (drop (i * 36) s) (bytes-drop (i * 36) s b)) (omega arith)))
+    (e ∙ sym (field-bits (partyLayout sourceParty) (sourceAt i s) 0 refl (omega (arith, k)) (bytes-take sourceSize (drop (i * sourceSize) s) (bytes-drop (i * sourceSize) s b)) (omega arith)))
 
 mul-at : tie.Need-mul-at
 mul-at c = search needs
@@ -49,9 +49,9 @@ returns c =
     let z = c .before .before .before in
     let s = now (z .args .store) in
     let i = z .args .i in
-    let e : i * 36 + 36 - i * 36 ≡ 36 = omega arith in
+    let e : i * sourceSize + sourceSize - i * sourceSize ≡ sourceSize = omega arith in
     mark-is s i (c .field .result) (λ k. c .before .before .shared-slice-known .given k .fits) (z .pre .0) (z .pre .1)
-    (c .field .ensures ∙ ap (λ (k : ℕ). bits 0 8 (take k (drop (i * 36) s))) e)
+    (c .field .ensures ∙ ap (λ (k : ℕ). bits 0 8 (take k (drop (i * sourceSize) s))) e)
 
 pub marked-spec : {M : Type 1} → statement M
 marked-spec =

@@ -7,7 +7,7 @@ use denote.Ref.{now}
 use lib.ListN.{drop}
 use Rattle.layout.proofs.Laws.{fields-front}
 use Rattle.store.specs.Slots.{partyLayout}
-use Rattle.store.specs.Store.{storeLength, sourceParty}
+use Rattle.store.specs.Store.{sourceSize, storeLength, sourceParty}
 use borrow.Author.Needs.{needs}
 use Rattle.store.proofs.sources.numbers.Statement.{statement}
 use Rattle.store.proofs.sources.numbers.Tie as tie
@@ -28,7 +28,7 @@ get-requires c κs = (refl, omega arith, refl)
 returns : tie.Need-returns
 returns c =
     let z = c .before .before .before .before .before in
-    c .before .get .ensures ∙ sym (fields-front (partyLayout sourceParty) (drop (z .args .i * 36) (now (z .args .store))))
+    c .before .get .ensures ∙ sym (fields-front (partyLayout sourceParty) (drop (z .args .i * sourceSize) (now (z .args .store))))
 
 pub numbers-spec : {M : Type 1} → statement M
 numbers-spec =

@@ -9,7 +9,7 @@ use Prim.Native.Nat.{ℕ}
 use Rattle.layout.specs.Layout.{Within, packed}
 use Rattle.layout.specs.Over.{over}
 use Rattle.store.specs.Slots.{partyLayout, slotBytes}
-use Rattle.store.specs.Store.{storeLength, sourceParty}
+use Rattle.store.specs.Store.{sourceSize, storeLength, sourceParty}
 use Rattle.store.proofs.Parties.{source-fits}
 use borrow.Author.Needs.{needs}
 use Rattle.store.proofs.sources.put_source.Statement.{statement}
@@ -41,7 +41,7 @@ unfolding slotBytes
 returns c =
     let z = c .before .before .before .before .before .before .before .before in
     c .before .before .put .ensures
-    ∙ ap (λ (v : List ℕ). over (z .args .i * 36) (packed (partyLayout sourceParty) v) (now (z .args .store))) (c .before .before .before .before .before .before .numbers-of .ensures)
+    ∙ ap (λ (v : List ℕ). over (z .args .i * sourceSize) (packed (partyLayout sourceParty) v) (now (z .args .store))) (c .before .before .before .before .before .before .numbers-of .ensures)
 
 pub put-source-spec : {M : Type 1} → statement M
 put-source-spec =
