@@ -13,7 +13,7 @@ use lib.Seq.{take-at, drop-append-add}
 use Rattle.layout.specs.Layout.{size, sized}
 use Rattle.layout.proofs.Bounds.{both}
 use Rattle.codec.specs.Inner.{joined, allWidths, shapeBy, shapeOf}
-use Rattle.codec.specs.Kinds.{at, Kind, unlisted, kinds, longest, kindAt, layoutOf}
+use Rattle.codec.specs.Kinds.{at, Kind, unlisted, kinds, longestRecord, kindAt, layoutOf}
 
 abbrev every : (Kind → Bool) → List Kind → Bool
 every t [] = true
@@ -74,10 +74,10 @@ module _ (k : ℕ) where
         slot = leb-true (at ws 1) 16 (b .1);
       }
 
--- no row is longer than the longest
-pub row-longest : (k : ℕ) → size (layoutOf k) ≤ longest
+-- no row is longer than the longestRecord
+pub row-longest : (k : ℕ) → size (layoutOf k) ≤ longestRecord
 unfolding kindAt
-row-longest k = leb-true (size (layoutOf k)) longest (at-row (λ (x : Kind). leb (size (x .widths)) longest) kinds k refl refl)
+row-longest k = leb-true (size (layoutOf k)) longestRecord (at-row (λ (x : Kind). leb (size (x .widths)) longestRecord) kinds k refl refl)
 
 -- ---- the code's tables are these rows
 

@@ -85,8 +85,8 @@ kinds =
     ∷ []
 
 -- no record is longer, in bytes
-abbrev pub longest : ℕ
-longest = 30
+abbrev pub longestRecord : ℕ
+longestRecord = 30
 
 unfoldable pub kindAt : ℕ → Kind
 kindAt k = getD kinds k unlisted

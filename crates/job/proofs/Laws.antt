@@ -11,7 +11,7 @@ use lib.ListN.{length, take, drop, length-append, length-drop}
 use lib.Seq.{take-nil, take-at, take-append-le, take-append-add, drop-at, drop-drop, length-take-le}
 use Rattle.layout.specs.Layout.{Bytes}
 use Rattle.layout.proofs.Numbers.{bytes-append, bytes-take, bytes-drop}
-use Rattle.codec.specs.Kinds.{longest}
+use Rattle.codec.specs.Kinds.{longestRecord}
 use Rattle.answer.specs.declared.Refusal.the-variants.{Damaged}
 use Rattle.store.specs.Store.{damaged, storeLength, clearedBytes}
 use Rattle.store.proofs.Laws.{cleared}
@@ -35,11 +35,11 @@ use Rattle.job.specs.Job.{Follows, stateIn, atHand, Advanced, Turned, En
 -- ---- bytes at hand
 
 -- nothing is fetched
-stays : (over : Bool) (n : ℕ) → over || leb longest n ≡ true → over ≡ false → longest ≤ n
+stays : (over : Bool) (n : ℕ) → over || leb longestRecord n ≡ true → over ≡ false → longestRecord ≤ n
 stays true n e o = absurd (true-false o)
-stays false n e o = leb-true longest n e
+stays false n e o = leb-true longestRecord n e
 
-pub stays-at-hand : (s : List ℕ) (from to : ℕ) (over failed : Bool) → from ≤ to → to ≤ length s → over || leb longest (to - from) ≡ true
+pub stays-at-hand : (s : List ℕ) (from to : ℕ) (over failed : Bool) → from ≤ to → to ≤ length s → over || leb longestRecord (to - from) ≡ true
     → Follows over (part from to s) s (record { from = from; to = to; over = over; failed = failed })
 stays-at-hand s from to over failed h l t =
     record {
@@ -92,9 +92,9 @@ or-left : (over b : Bool) → over || b ≡ false → over ≡ true → ⊥
 or-left true b e o = true-false e
 or-left false b e o = true-false (sym o)
 
-pub short-of : (over : Bool) (n : ℕ) → over || leb longest n ≡ false → n < longest
+pub short-of : (over : Bool) (n : ℕ) → over || leb longestRecord n ≡ false → n < longestRecord
 short-of true n e = absurd (true-false e)
-short-of false n e = leb-false longest n e
+short-of false n e = leb-false longestRecord n e
 
 -- the bytes held at the front
 pub held-front : (s s′ : List ℕ) (from to : ℕ) → from ≤ to → to ≤ length s → s′ ≡ part from to s ++ drop (to - from) s → take (to - from) s′ ≡ part from to s

@@ -6,7 +6,7 @@ use mathlib.Core.Bool.{Bool, true, false}
 use mathlib.Core.List.{List, [], _++_}
 use lib.ListN.{length, take}
 use Rattle.layout.specs.Layout.{Bytes}
-use Rattle.codec.specs.Kinds.{longest}
+use Rattle.codec.specs.Kinds.{longestRecord}
 use Rattle.store.specs.Store.{damaged, clearedBytes}
 use Rattle.listing.specs.Listing.{lineRoom, endLine}
 use Rattle.machine.specs.declared.State.{State}
@@ -31,8 +31,8 @@ pub record Follows (over : Bool) (was s : List ℕ) (h : Hand) : Type 0 where
   -- the input is over only where nothing was delivered, and stays over
   pub quiet : h .over ≡ true → more ≡ []
   pub stays-over : over ≡ true → h .over ≡ true
-  -- and where less than the longest record is at hand, more is fetched
-  pub fetches : h .over ≡ false → length was < longest → 0 < length more
+  -- and where less than the longestRecord record is at hand, more is fetched
+  pub fetches : h .over ≡ false → length was < longestRecord → 0 < length more
 
 abbrev pub stateIn : Stand → State
 stateIn s = record { count = s .count; stopped = s .stopped }
@@ -40,9 +40,9 @@ stateIn s = record { count = s .count; stopped = s .stopped }
 abbrev pub atHand : Stand → List ℕ → List ℕ
 atHand s input = part (s .from) (s .to) input
 
--- a turn that is done leaves nothing that it could do: where a line has room, no byte if the input is over, and else less than the longest record
+-- a turn that is done leaves nothing that it could do: where a line has room, no byte if the input is over, and else less than the longestRecord record
 abbrev pub Waits : Stand → List ℕ → Type 0
-Waits r output = r .stopped ≡ false → r .wrote + lineRoom ≤ length output → (r .over ≡ true → r .from ≡ r .to) × (r .to - r .from < longest)
+Waits r output = r .stopped ≡ false → r .wrote + lineRoom ≤ length output → (r .over ≡ true → r .from ≡ r .to) × (r .to - r .from < longestRecord)
 
 -- the records at hand are done: their text stands at the front of the output, and no byte is passed over
 pub record Advanced (hand : Hand) (x : State) (input store : List ℕ) (r : Stand) (store′ output′ : List ℕ) : Type 0 where
@@ -69,8 +69,8 @@ pub record Turned (s : Stand) (input store : List ℕ) (r : Stand) (input′ sto
   pub quiet : r .over ≡ true → more ≡ []
   pub stays-over : s .over ≡ true → r .over ≡ true
   pub fed : Fed (r .over) (stateIn s) (atHand s input ++ more) store (take (r .wrote) output′) (stateIn r) (atHand r input′) store′
-  -- it gets on: where less than the longest record was at hand, bytes came or the input is over; and it leaves nothing that it could do
-  pub fetches : r .over ≡ false → length (atHand s input) < longest → 0 < length more
+  -- it gets on: where less than the longestRecord record was at hand, bytes came or the input is over; and it leaves nothing that it could do
+  pub fetches : r .over ≡ false → length (atHand s input) < longestRecord → 0 < length more
   pub waits : r .unread ≡ false → Waits r output′
 
 -- the last line stands at the front of the output

@@ -3,14 +3,14 @@
 use libc::STDERR_FILENO;
 use libc::STDIN_FILENO;
 use libc::STDOUT_FILENO;
-use machine::LONGEST;
+use machine::LONGEST_RECORD;
 use machine::State;
 ghost use mathlib.Core.Path.{_≡_};
 ghost use mathlib.Core.Bool.{false};
 ghost use Prim.Native.Nat.{_+_, _-_, _≤_, _<_};
 ghost use lib.ListN.{length, take};
 ghost use Rattle.level.specs.Table.{table};
-ghost use Rattle.codec.specs.Kinds.{longest};
+ghost use Rattle.codec.specs.Kinds.{longestRecord};
 ghost use Rattle.store.specs.Store.{damaged, storeLength};
 ghost use Rattle.listing.specs.Listing.{lineRoom};
 ghost use Rattle.machine.specs.Inner.{part};
@@ -72,10 +72,10 @@ fn fetch(input: &mut [u8], held: usize) -> Hand
 
 // Makes sure that a whole record is at hand, or that the input is over.
 fn refill(input: &mut [u8], from: usize, to: usize, over: bool) -> Hand
-    requires { ⌜ (from ≤ to) × (to ≤ length (now input)) × (longest ≤ length (now input)) ⌝ }
+    requires { ⌜ (from ≤ to) × (to ≤ length (now input)) × (longestRecord ≤ length (now input)) ⌝ }
     ensures { λ r. ⌜ Follows over (part from to (now (input .entry))) (now (input .exit)) r ⌝ }
 {
-    if over | (LONGEST <= to - from) {
+    if over | (LONGEST_RECORD <= to - from) {
         return Hand {
             from,
             to,
@@ -126,7 +126,7 @@ fn turn(
     output: &mut [u8],
     s: Stand,
 ) -> Stand
-    requires { ⌜ (now steps ≡ table) × (damaged (now store) ≡ false) × (s .from ≤ s .to) × (s .to ≤ length (now input)) × (longest ≤ length (now input)) × (length (now input) ≤ 65536) × (s .count + 65536 < 18446744073709551616) ⌝ }
+    requires { ⌜ (now steps ≡ table) × (damaged (now store) ≡ false) × (s .from ≤ s .to) × (s .to ≤ length (now input)) × (longestRecord ≤ length (now input)) × (length (now input) ≤ 65536) × (s .count + 65536 < 18446744073709551616) ⌝ }
     ensures { λ r. ⌜ Turned s (now (input .entry)) (now (store .entry)) r (now (input .exit)) (now (store .exit)) (now (output .exit)) ⌝ }
 {
     let hand = refill(input, s.from, s.to, s.over);
@@ -178,7 +178,7 @@ fn finish(output: &mut [u8], count: u64) -> Last
 
 // Runs a job, from a cleared store to the last line.
 pub fn run(steps: &[u32; 1000], store: &mut [u8], input: &mut [u8], output: &mut [u8]) -> End
-    requires { ⌜ (now steps ≡ table) × (length (now store) ≡ storeLength) × (longest ≤ length (now input)) × (length (now input) ≤ 65536) × (lineRoom ≤ length (now output)) ⌝ }
+    requires { ⌜ (now steps ≡ table) × (length (now store) ≡ storeLength) × (longestRecord ≤ length (now input)) × (length (now input) ≤ 65536) × (lineRoom ≤ length (now output)) ⌝ }
     ensures { λ r. ⌜ Ran r (now (store .exit)) (now (output .exit)) ⌝ }
 {
     book::clear(store);

@@ -10,7 +10,7 @@ use lib.Dec.{ltb, leb}
 use lib.ListN.{length, take, drop, length-append, length-drop}
 use lib.Seq.{take-append-seam, drop-drop, drop-append-le}
 use Rattle.layout.specs.Layout.{Bytes}
-use Rattle.codec.specs.Kinds.{longest}
+use Rattle.codec.specs.Kinds.{longestRecord}
 use Rattle.service.specs.declared.Deed.{Deed}
 use Rattle.service.specs.Service.{doneTo}
 use Rattle.service.proofs.Laws.{goes-within}
@@ -25,28 +25,28 @@ use Rattle.machine.proofs.Feeding.{feed-waits, feed-rule, halt-zero, ha
 
 -- ---- a record that is ready
 
--- nothing follows, or the longest record is there
+-- nothing follows, or the longestRecord record is there
 abbrev Sure : Bool → ℕ → Type 0
-Sure over size = over ≡ false → longest ≤ size
+Sure over size = over ≡ false → longestRecord ≤ size
 
 pub ready-parts : (over : Bool) (size room : ℕ) → ready over size room ≡ true → (0 < size) × (lineRoom ≤ room) × Sure over size
 ready-parts over size room e = go (ltb 0 size) (leb lineRoom room) over refl refl e
   where
-    whole : (o : Bool) → o || leb longest size ≡ true → Sure o size
+    whole : (o : Bool) → o || leb longestRecord size ≡ true → Sure o size
     whole true q f = absurd (true-false f)
-    whole false q f = leb-true longest size q
+    whole false q f = leb-true longestRecord size q
 
-    go : (a b o : Bool) → ltb 0 size ≡ a → leb lineRoom room ≡ b → (a && b) && (o || leb longest size) ≡ true → (0 < size) × (lineRoom ≤ room) × Sure o size
+    go : (a b o : Bool) → ltb 0 size ≡ a → leb lineRoom room ≡ b → (a && b) && (o || leb longestRecord size) ≡ true → (0 < size) × (lineRoom ≤ room) × Sure o size
     go true true o p q z = (ltb-true 0 size p, leb-true lineRoom room q, whole o z)
     go true false o p q z = absurd (true-false (sym z))
     go false b o p q z = absurd (true-false (sym z))
 
-not-ready : (over : Bool) (size room : ℕ) → ready over size room ≡ false → lineRoom ≤ room → (over ≡ true → size ≡ 0) × (size < longest)
-not-ready over size room e h = go (ltb 0 size) over refl (ap (λ (b : Bool). (ltb 0 size && b) && (over || leb longest size)) (sym (le-leb lineRoom room h)) ∙ e)
+not-ready : (over : Bool) (size room : ℕ) → ready over size room ≡ false → lineRoom ≤ room → (over ≡ true → size ≡ 0) × (size < longestRecord)
+not-ready over size room e h = go (ltb 0 size) over refl (ap (λ (b : Bool). (ltb 0 size && b) && (over || leb longestRecord size)) (sym (le-leb lineRoom room h)) ∙ e)
   where
-    go : (a o : Bool) → ltb 0 size ≡ a → (a && true) && (o || leb longest size) ≡ false → (o ≡ true → size ≡ 0) × (size < longest)
+    go : (a o : Bool) → ltb 0 size ≡ a → (a && true) && (o || leb longestRecord size) ≡ false → (o ≡ true → size ≡ 0) × (size < longestRecord)
     go true true p z = absurd (true-false z)
-    go true false p z = (λ y. absurd (true-false (sym y)), leb-false longest size z)
+    go true false p z = (λ y. absurd (true-false (sym y)), leb-false longestRecord size z)
     go false o p z = (λ y. omega (arith, ltb-false 0 size p), omega (arith, ltb-false 0 size p))
 
 -- it does the same whatever follows
@@ -65,7 +65,7 @@ pub record Good (over : Bool) (room n : ℕ) (s store : List ℕ) (f : Feed) : T
   pub count-within : f .state .count ≤ n + length s
   pub fed : (later : List ℕ) → Bytes later → (over ≡ true → later ≡ [])
       → before (f .text) (left (f .state) (drop (f .used) s ++ later) (f .store)) ≡ listFrom n (s ++ later) store
-  pub waits : f .state .stopped ≡ false → length (f .text) + lineRoom ≤ room → (over ≡ true → f .used ≡ length s) × (length s - f .used < longest)
+  pub waits : f .state .stopped ≡ false → length (f .text) + lineRoom ≤ room → (over ≡ true → f .used ≡ length s) × (length s - f .used < longestRecord)
   pub moves : f .state .stopped ≡ false → f .used ≡ 0 → length (f .text) ≡ 0
 
 good-waiting : (over : Bool) (room n : ℕ) (s store : List ℕ) → ready over (length s) room ≡ false → Good over room n s store (waiting n store)

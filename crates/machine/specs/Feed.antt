@@ -7,7 +7,7 @@ use mathlib.Core.List.{List, [], _++_}
 use lib.Dec.{leb, ltb}
 use lib.ListN.{length, take, drop}
 use Rattle.layout.specs.Layout.{Bytes}
-use Rattle.codec.specs.Kinds.{longest}
+use Rattle.codec.specs.Kinds.{longestRecord}
 use Rattle.service.specs.Service.{doneTo}
 use Rattle.listing.specs.Listing.{lineRoom, lineOf}
 use Rattle.machine.specs.declared.State.{State}
@@ -16,9 +16,9 @@ use Rattle.machine.specs.Job.{Listing, before, ended, listFrom}
 
 -- ---- what it leaves
 
--- the next record can be done: there are bytes, a line has room, and the record is surely whole, for no more bytes follow or the longest is there
+-- the next record can be done: there are bytes, a line has room, and the record is surely whole, for no more bytes follow or the longestRecord is there
 abbrev pub ready : Bool → ℕ → ℕ → Bool
-ready over size room = (ltb 0 size && leb lineRoom room) && (over || leb longest size)
+ready over size room = (ltb 0 size && leb lineRoom room) && (over || leb longestRecord size)
 
 -- the state that a feed leaves, the bytes that it used, the store and the text
 pub record Feed : Type 0 where
@@ -88,6 +88,6 @@ pub record Feeds (over : Bool) (x : State) (held store out : List ℕ) (p : Prog
   pub count-within : p .count ≤ x .count + length held
   pub fed : Fed over x held store (take (p .wrote) out′) (stateOf p) (drop (p .used) held) store′
   -- it waits only for bytes, or for room: a record that is surely whole is done where a line has room
-  pub waits : p .stopped ≡ false → p .wrote + lineRoom ≤ length out → (over ≡ true → p .used ≡ length held) × (length held - p .used < longest)
+  pub waits : p .stopped ≡ false → p .wrote + lineRoom ≤ length out → (over ≡ true → p .used ≡ length held) × (length held - p .used < longestRecord)
   -- and it hands out no text without using a byte
   pub moves : p .stopped ≡ false → p .used ≡ 0 → p .wrote ≡ 0

@@ -33,8 +33,8 @@ pub struct Entry {
     pub wrote: usize,
 }
 
-// The bytes of the longest record.
-pub const LONGEST: usize = 30;
+// The bytes of the longestRecord record.
+pub const LONGEST_RECORD: usize = 30;
 
 // The room that every line has.
 const LINE_ROOM: usize = 64;
@@ -72,7 +72,7 @@ fn enter(
 fn ready(over: bool, size: usize, room: usize) -> bool
     ensures { λ r. ⌜ r ≡ ready over size room ⌝ }
 {
-    (0 < size) & (LINE_ROOM <= room) & (over | (LONGEST <= size))
+    (0 < size) & (LINE_ROOM <= room) & (over | (LONGEST_RECORD <= size))
 }
 
 // Feeds the bytes held to a job. Where more may come, a record is done only if it is surely whole; `over` says that none will.

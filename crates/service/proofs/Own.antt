@@ -7,7 +7,7 @@ use native.Mathlib.Omega.{arith}
 use lib.ListN.{length}
 use Rattle.layout.specs.Layout.{Bytes}
 use Rattle.codec.specs.declared.Reading.{Reading}
-use Rattle.codec.specs.Kinds.{longest}
+use Rattle.codec.specs.Kinds.{longestRecord}
 use Rattle.codec.specs.Record.{kindOf, lengthOf}
 use Rattle.codec.proofs.Rows.{row-longest}
 use Rattle.codec.proofs.Own.{read-own, extent-own}
@@ -19,6 +19,6 @@ module _ (s t store : List ℕ) (b : Bytes t) (h : 0 < length s) where
   own l =
       ap₂ (λ (r : Reading) (n : ℕ). deed (r .told) n (answerTold (r .told) (r .source) store)) (read-own s t b h l) (extent-own s t b h l)
 
-  -- so it is where the bytes of the longest record are there
-  pub own-longest : longest ≤ length s → doneTo (s ++ t) store ≡ doneTo s store
+  -- so it is where the bytes of the longestRecord record are there
+  pub own-longest : longestRecord ≤ length s → doneTo (s ++ t) store ≡ doneTo s store
   own-longest l = own (omega (arith, row-longest (kindOf s)))

@@ -4,7 +4,7 @@ use native.Mathlib.Omega.{arith}
 use lib.Dec.{leb}
 use denote.Ref.{now}
 use borrow.Author.Needs.{needs}
-use Rattle.codec.specs.Kinds.{longest}
+use Rattle.codec.specs.Kinds.{longestRecord}
 use Rattle.job.proofs.Laws.{stays-at-hand, short-of, held-front, refilled}
 use Rattle.job.proofs.pipe.refill.Statement.{statement}
 use Rattle.job.proofs.pipe.refill.Tie as tie
@@ -35,7 +35,7 @@ returns-2 : tie.Need-returns-2
 returns-2 c =
     let start = c .before .before .before .before .before .before .before .before .before .before in
     let a = start .args in
-    refilled (a .over) (leb longest (a .to - a .from)) _ _ _ _ (c .before .before .before .before .before .before .before .before .if1 .left)
+    refilled (a .over) (leb longestRecord (a .to - a .from)) _ _ _ _ (c .before .before .before .before .before .before .before .before .if1 .left)
     (held-front (now (a .input)) _ (a .from) (a .to) (start .pre .0) (start .pre .1) (c .before .before .before .before .before .before .hold .ensures)) (c .before .before .fetch .ensures)
 
 pub refill-spec : {M : Type 1} → statement M
