@@ -74,7 +74,7 @@ module _ (k : ℕ) where
         slot = leb-true (at ws 1) 16 (b .1);
       }
 
--- no row is longer than the longestRecord
+-- no row is longer than the longest record
 pub row-longest : (k : ℕ) → size (layoutOf k) ≤ longestRecord
 unfolding kindAt
 row-longest k = leb-true (size (layoutOf k)) longestRecord (at-row (λ (x : Kind). leb (size (x .widths)) longestRecord) kinds k refl refl)

@@ -31,7 +31,7 @@ pub record Follows (over : Bool) (was s : List ℕ) (h : Hand) : Type 0 where
   -- the input is over only where nothing was delivered, and stays over
   pub quiet : h .over ≡ true → more ≡ []
   pub stays-over : over ≡ true → h .over ≡ true
-  -- and where less than the longestRecord record is at hand, more is fetched
+  -- and where less than the longest record is at hand, more is fetched
   pub fetches : h .over ≡ false → length was < longestRecord → 0 < length more
 
 abbrev pub stateIn : Stand → State
@@ -40,7 +40,7 @@ stateIn s = record { count = s .count; stopped = s .stopped }
 abbrev pub atHand : Stand → List ℕ → List ℕ
 atHand s input = part (s .from) (s .to) input
 
--- a turn that is done leaves nothing that it could do: where a line has room, no byte if the input is over, and else less than the longestRecord record
+-- a turn that is done leaves nothing that it could do: where a line has room, no byte if the input is over, and else less than the longest record
 abbrev pub Waits : Stand → List ℕ → Type 0
 Waits r output = r .stopped ≡ false → r .wrote + lineRoom ≤ length output → (r .over ≡ true → r .from ≡ r .to) × (r .to - r .from < longestRecord)
 
@@ -69,7 +69,7 @@ pub record Turned (s : Stand) (input store : List ℕ) (r : Stand) (input′ sto
   pub quiet : r .over ≡ true → more ≡ []
   pub stays-over : s .over ≡ true → r .over ≡ true
   pub fed : Fed (r .over) (stateIn s) (atHand s input ++ more) store (take (r .wrote) output′) (stateIn r) (atHand r input′) store′
-  -- it gets on: where less than the longestRecord record was at hand, bytes came or the input is over; and it leaves nothing that it could do
+  -- it gets on: where less than the longest record was at hand, bytes came or the input is over; and it leaves nothing that it could do
   pub fetches : r .over ≡ false → length (atHand s input) < longestRecord → 0 < length more
   pub waits : r .unread ≡ false → Waits r output′
 

@@ -25,7 +25,7 @@ use Rattle.machine.proofs.Feeding.{feed-waits, feed-rule, halt-zero, ha
 
 -- ---- a record that is ready
 
--- nothing follows, or the longestRecord record is there
+-- nothing follows, or the longest record is there
 abbrev Sure : Bool → ℕ → Type 0
 Sure over size = over ≡ false → longestRecord ≤ size
 

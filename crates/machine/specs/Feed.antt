@@ -16,7 +16,7 @@ use Rattle.machine.specs.Job.{Listing, before, ended, listFrom}
 
 -- ---- what it leaves
 
--- the next record can be done: there are bytes, a line has room, and the record is surely whole, for no more bytes follow or the longestRecord is there
+-- the next record can be done: there are bytes, a line has room, and the record is surely whole, for no more bytes follow or the longest record is there
 abbrev pub ready : Bool → ℕ → ℕ → Bool
 ready over size room = (ltb 0 size && leb lineRoom room) && (over || leb longestRecord size)
 

@@ -33,7 +33,7 @@ pub struct Entry {
     pub wrote: usize,
 }
 
-// The bytes of the longestRecord record.
+// The bytes of the longest record.
 pub const LONGEST_RECORD: usize = 30;
 
 // The room that every line has.

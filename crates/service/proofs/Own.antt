@@ -19,6 +19,6 @@ module _ (s t store : List ℕ) (b : Bytes t) (h : 0 < length s) where
   own l =
       ap₂ (λ (r : Reading) (n : ℕ). deed (r .told) n (answerTold (r .told) (r .source) store)) (read-own s t b h l) (extent-own s t b h l)
 
-  -- so it is where the bytes of the longestRecord record are there
+  -- so it is where the bytes of the longest record are there
   pub own-longest : longestRecord ≤ length s → doneTo (s ++ t) store ≡ doneTo s store
   own-longest l = own (omega (arith, row-longest (kindOf s)))
