@@ -1,7 +1,7 @@
 // Job records for any caller (document 01, 'Units and fields'): no call here requires anything.
 // What a record is, and how it is read and written, is in `codec`; here each call makes the level table that `codec` is lent.
-pub use codec::Request;
 pub use codec::Reading;
+pub use codec::Request;
 pub use codec::Told;
 pub use codec::Written;
 use road::Source;
