@@ -4,6 +4,7 @@ use road::Bar;
 use road::Pair;
 use road::Part;
 use road::Receiver;
+use road::Sent;
 use road::Shares;
 use road::Source;
 use road::Term;
@@ -18,7 +19,7 @@ ghost use Rattle.road.specs.Term.{takes, _⊕_};
 ghost use Rattle.road.specs.Limits.{coordinate};
 ghost use Rattle.road.specs.Reach.{sourceHeight, apart, square, planSquare, distanceTerm, groundTerm, weatherTerm, pairOf};
 ghost use Rattle.road.specs.Judge.{sourceVerdict, receiverVerdict};
-ghost use Rattle.road.specs.Inner.{voicesOf, voicedPart, hearOf, Modest, Moderate};
+ghost use Rattle.road.specs.Inner.{sentOf, voicedPart, hearOf, Modest, Moderate};
 
 // How high above the road the source is, in cm.
 const SOURCE_HEIGHT: u16 = 50;
@@ -127,14 +128,18 @@ fn share(steps: &[u32; 1000], v: Voice, way: Term, c: u64, h: u64, near: u64) ->
     }
 }
 
-// The three shares by squared distances that are in range, or too loud.
-fn hear(steps: &[u32; 1000], voices: [Voice; 3], q0: u64, q: u64, h: u64) -> Pair
+// The three shares of a piece of road by its length's term and squared distances that are in range, or too loud.
+fn hear(steps: &[u32; 1000], voices: [Voice; 3], length: Term, q0: u64, q: u64, h: u64) -> Pair
     requires { ⌜ (now steps ≡ table) × Moderate voices × (1 ≤ q0) × (q0 ≤ q) × (q ≤ 40000000000) × (h ≤ 1000) ⌝ }
-    ensures { λ p. ⌜ p ≡ hearOf voices q0 q h ⌝ }
+    requires { ⌜ (length .up ≤ 20000) × (length .down ≤ 20000) ⌝ }
+    ensures { λ p. ⌜ p ≡ hearOf voices length q0 q h ⌝ }
 {
     let near = root::root(q0);
     let far = root::root_from(q, near + 1);
-    let way = way(steps, q, far, h);
+    let over = way(steps, q, far, h);
+    let up = length.up + over.up;
+    let down = length.down + over.down;
+    let way = Term { up: up, down: down };
     let day = share(steps, voices[0], way, 200, h, near);
     let evening = share(steps, voices[1], way, 100, h, near);
     let night = share(steps, voices[2], way, 0, h, near);
@@ -149,8 +154,8 @@ fn hear(steps: &[u32; 1000], voices: [Voice; 3], q0: u64, q: u64, h: u64) -> Pai
 }
 
 // A source and a receiver: the three shares, or the first bar.
-pub fn pair(steps: &[u32; 1000], s: Source, voices: [Voice; 3], r: Receiver) -> Pair
-    requires { ⌜ (now steps ≡ table) × (sourceVerdict s ≡ Allowed) × (voices ≡ voicesOf s) × (receiverVerdict r ≡ Allowed) ⌝ }
+pub fn pair(steps: &[u32; 1000], s: Source, sent: Sent, r: Receiver) -> Pair
+    requires { ⌜ (now steps ≡ table) × (sourceVerdict s ≡ Allowed) × (sent ≡ sentOf s) × (receiverVerdict r ≡ Allowed) ⌝ }
     ensures { λ p. ⌜ p ≡ pairOf s r ⌝ }
 {
     let q0 = plan(s, r);
@@ -167,5 +172,6 @@ pub fn pair(steps: &[u32; 1000], s: Source, voices: [Voice; 3], r: Receiver) -> 
         return Pair::Barred(Bar::Long);
     }
     let h = (r.height + SOURCE_HEIGHT) as u64;
-    hear(steps, voices, q0, q, h)
+    let voices = sent.voices;
+    hear(steps, voices, sent.length, q0, q, h)
 }

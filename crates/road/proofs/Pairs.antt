@@ -18,6 +18,7 @@ use Rattle.road.specs.declared.Source.{Source}
 use Rattle.road.specs.declared.Receiver.{Receiver}
 use Rattle.road.specs.declared.Voice.{Voice}
 use Rattle.road.specs.declared.Shares.{Shares}
+use Rattle.road.specs.declared.Bar.{Bar}
 use Rattle.road.specs.declared.Bar.the-variants.{Near, Far, Long, Loud}
 use Rattle.road.specs.declared.Pair.{Pair}
 use Rattle.road.specs.declared.Pair.the-variants.{Heard, Barred}
@@ -25,6 +26,7 @@ use Rattle.road.specs.declared.Part.{Part}
 use Rattle.road.specs.Term.{term, _⊕_, period}
 use Rattle.road.specs.Emission.{emissionLevel}
 use Rattle.road.specs.Reach.{square, planSquare, spaceSquare, lengthTerm, distanceTerm, groundTerm, wallsTerm, weatherOf, weatherTerm, rayHeight, shareLevel, energyShare, tooLoud, shareOf, loudIn, sharesOf, pairOf}
+use Rattle.road.specs.Pairs.{mostShare, shareIn, Bounded}
 use Rattle.road.specs.Limits.{longest}
 use Rattle.road.specs.Inner.{silent, voiceOf, voicesOf, voicedPart, wayOf, partIn, pairBy, hearOf}
 use Rattle.road.proofs.Bounds.{times, lv-small}
@@ -36,7 +38,7 @@ pub ground-most : (h r : ℕ) → groundTerm h r .down ≤ 480
 unfolding groundTerm
 ground-most h r = sub-le 480 _
 
-pub small-way : (q r h : ℕ) → 1 ≤ q → q ≤ 40000000000 → r ≤ 1000000 → Small 100000 (distanceTerm q r ⊕ groundTerm h r)
+pub small-way : (q r h : ℕ) → 1 ≤ q → q ≤ 40000000000 → r ≤ 1000000 → Small 50000 (distanceTerm q r ⊕ groundTerm h r)
 unfolding distanceTerm groundTerm
 small-way q r h a b d = record {
   up = omega arith;
@@ -71,13 +73,15 @@ reached q (suc r) a b e = record { some = omega arith; most = go (decLe (suc r) 
 
 -- ---- the code's sums are the definition's
 
-level-is : (s : Source) (r : Receiver) (i : ℕ)
-    → emissionLevel s i ⊕ lengthTerm (s .length) ⊕ wallsTerm (s .walls) (s .height) (s .spacing) ⊕ wayOf (planSquare s r) (spaceSquare s r) (rayHeight r) i
-    ≡ shareLevel s r i
+-- what is added on the way from a road to a point
+abbrev between : Source → Receiver → ℕ → Term
+between s r i = wayOf (lengthTerm (s .length)) (planSquare s r) (spaceSquare s r) (rayHeight r) i
+
+level-is : (s : Source) (r : Receiver) (i : ℕ) → emissionLevel s i ⊕ wallsTerm (s .walls) (s .height) (s .spacing) ⊕ between s r i ≡ shareLevel s r i
 unfolding shareLevel
 level-is s r i = same (emissionLevel s i) (lengthTerm (s .length)) _ _ _ _
   where
-    same : (e l w d g m : Term) → e ⊕ l ⊕ w ⊕ (d ⊕ g ⊕ m) ≡ e ⊕ l ⊕ d ⊕ g ⊕ w ⊕ m
+    same : (e l w d g m : Term) → e ⊕ w ⊕ (l ⊕ (d ⊕ g) ⊕ m) ≡ e ⊕ l ⊕ d ⊕ g ⊕ w ⊕ m
     same e l w d g m = term-eq _ _ (omega arith) (omega arith)
 
 -- a part that is too loud has no energy
@@ -95,22 +99,21 @@ part-voiced v t l e f = rw (e, voicedPart) (ap (λ (x : Term). chosen (tooLoud x
     go true = refl
     go false = refl
 
-part-is : (s : Source) (r : Receiver) (i : ℕ)
-    → voicedPart (voiceOf s i) (wayOf (planSquare s r) (spaceSquare s r) (rayHeight r) i) ≡ partWith (loudIn s r i) (shareOf s r i)
+part-is : (s : Source) (r : Receiver) (i : ℕ) → voicedPart (voiceOf s i) (between s r i) ≡ partWith (loudIn s r i) (shareOf s r i)
 unfolding voiceOf loudIn shareOf
 part-is s r i = go (eqb (period s i .m) 0)
   where
     sent : Voice
-    sent = record { sounds = true; level = emissionLevel s i ⊕ lengthTerm (s .length) ⊕ wallsTerm (s .walls) (s .height) (s .spacing) }
+    sent = record { sounds = true; level = emissionLevel s i ⊕ wallsTerm (s .walls) (s .height) (s .spacing) }
 
     go : (b : Bool)
-        → voicedPart (cond b silent sent) (wayOf (planSquare s r) (spaceSquare s r) (rayHeight r) i)
+        → voicedPart (cond b silent sent) (between s r i)
         ≡ partWith (cond b false (tooLoud (shareLevel s r i))) (cond b 0 (energyShare (shareLevel s r i)))
-    go true = nothing (wayOf (planSquare s r) (spaceSquare s r) (rayHeight r) i)
+    go true = nothing (between s r i)
       where
         nothing : (t : Term) → voicedPart silent t ≡ partWith false 0
         nothing t = unfold voicedPart partWith in refl
-    go false = part-voiced sent (wayOf (planSquare s r) (spaceSquare s r) (rayHeight r) i) (shareLevel s r i) refl (level-is s r i)
+    go false = part-voiced sent (between s r i) (shareLevel s r i) refl (level-is s r i)
 
 pair-by-is : (a b d : Bool) (x y z : ℕ)
     → pairBy (partWith a x) (partWith b y) (partWith d z) ≡ cond (a || b || d) (Barred Loud) (Heard (record { day = x; evening = y; night = z }))
@@ -121,7 +124,7 @@ pair-by-is false false true x y z = refl
 pair-by-is false false false x y z = refl
 
 pub hear-is : (s : Source) (r : Receiver)
-    → hearOf (voicesOf s) (planSquare s r) (spaceSquare s r) (rayHeight r)
+    → hearOf (voicesOf s) (lengthTerm (s .length)) (planSquare s r) (spaceSquare s r) (rayHeight r)
     ≡ cond (loudIn s r 0 || loudIn s r 1 || loudIn s r 2) (Barred Loud) (Heard (sharesOf s r))
 unfolding hearOf voicesOf sharesOf
 hear-is s r =
@@ -149,7 +152,7 @@ module _ (s : Source) (r : Receiver) where
       rw (le-ltb (spaceSquare s r) 250000 a, le-ltb 40000000000 (spaceSquare s r) b, lt-ltb (spaceSquare s r) (4 * square (s .length)) h, pairOf)
 
   pub pair-within : 250000 ≤ spaceSquare s r → spaceSquare s r ≤ 40000000000 → 4 * square (s .length) ≤ spaceSquare s r
-      → pairOf s r ≡ hearOf (voicesOf s) (planSquare s r) (spaceSquare s r) (rayHeight r)
+      → pairOf s r ≡ hearOf (voicesOf s) (lengthTerm (s .length)) (planSquare s r) (spaceSquare s r) (rayHeight r)
   unfolding pairOf
   pair-within a b h =
       rw (le-ltb (spaceSquare s r) 250000 a, le-ltb 40000000000 (spaceSquare s r) b, le-ltb (spaceSquare s r) (4 * square (s .length)) h, pairOf)
@@ -157,7 +160,7 @@ module _ (s : Source) (r : Receiver) where
 
 -- ---- an accepted share
 
-pub share-most : (s : Source) (r : Receiver) (i : ℕ) → loudIn s r i ≡ false → shareOf s r i ≤ 1000000000000000
+pub share-most : (s : Source) (r : Receiver) (i : ℕ) → loudIn s r i ≡ false → shareOf s r i ≤ mostShare
 unfolding shareOf loudIn energyShare
 share-most s r i = go (eqb (period s i .m) 0)
   where
@@ -179,33 +182,43 @@ or-false : (a b : Bool) → (a || b) ≡ false → (a ≡ false) × (b ≡ false
 or-false true b e = absurd (let z : _≡_ {A = ℕ} 0 1 = cc in omega arith)
 or-false false b e = (refl, e)
 
--- what is known of the shares of a pair that is heard
-pub record Sound (h : Shares) : Type 0 where
-  pub day : h .day ≤ 1000000000000000
-  pub evening : h .evening ≤ 1000000000000000
-  pub night : h .night ≤ 1000000000000000
+-- ---- what a ledger and a book know of a pair
 
-heard-only : (b : Bool) (p : Pair) (x : Shares) → cond b (Barred Loud) p ≡ Heard x → (b ≡ false) × (p ≡ Heard x)
-heard-only true p x e = absurd (let z : _≡_ {A = ℕ} 0 1 = cc in omega arith)
-heard-only false p x e = (refl, e)
+module _ (s : Source) (r : Receiver) where
+  no-loud : (loudIn s r 0 || loudIn s r 1 || loudIn s r 2) ≡ false → (i : ℕ) → shareIn (Heard (sharesOf s r)) i ≤ mostShare
+  unfolding sharesOf
+  no-loud e i =
+      let a = or-false (loudIn s r 0 || loudIn s r 1) (loudIn s r 2) e in
+      let b = or-false (loudIn s r 0) (loudIn s r 1) (a .0) in
+      three i (share-most s r 0 (b .0)) (share-most s r 1 (b .1)) (share-most s r 2 (a .1))
+    where
+      three : (i : ℕ) → shareOf s r 0 ≤ mostShare → shareOf s r 1 ≤ mostShare → shareOf s r 2 ≤ mostShare
+          → getD (shareOf s r 0 ∷ shareOf s r 1 ∷ shareOf s r 2 ∷ []) i 0 ≤ mostShare
+      three zero x y z = x
+      three (suc zero) x y z = y
+      three (suc (suc zero)) x y z = z
+      three (suc (suc (suc i))) x y z = omega arith
 
-past : (b : Bool) (q p : Pair) (x : Shares) → (q ≡ Heard x → ⊥) → cond b q p ≡ Heard x → p ≡ Heard x
-past true q p x n e = absurd (n e)
-past false q p x n e = e
+  nothing-brought : (b : Bar) (i : ℕ) → shareIn (Barred b) i ≤ mostShare
+  nothing-brought b zero = omega arith
+  nothing-brought b (suc zero) = omega arith
+  nothing-brought b (suc (suc zero)) = omega arith
+  nothing-brought b (suc (suc (suc i))) = omega arith
 
-pub heard-is : (s : Source) (r : Receiver) (h : Shares) → pairOf s r ≡ Heard h → (h ≡ sharesOf s r) × Sound h
-unfolding pairOf sharesOf
-heard-is s r h e =
-    let near : Barred Near ≡ Heard h → ⊥ = λ x. let z : _≡_ {A = ℕ} 0 1 = cc in omega arith in
-    let far : Barred Far ≡ Heard h → ⊥ = λ x. let z : _≡_ {A = ℕ} 0 1 = cc in omega arith in
-    let long : Barred Long ≡ Heard h → ⊥ = λ x. let z : _≡_ {A = ℕ} 0 1 = cc in omega arith in
-    let p = past (ltb (spaceSquare s r) 250000) _ _ h near e in
-    let q = past (ltb 40000000000 (spaceSquare s r)) _ _ h far p in
-    let l = past (ltb (spaceSquare s r) (4 * square (s .length))) _ _ h long q in
-    let o = heard-only (loudIn s r 0 || loudIn s r 1 || loudIn s r 2) _ h l in
-    let a = or-false (loudIn s r 0 || loudIn s r 1) (loudIn s r 2) (o .0) in
-    let b = or-false (loudIn s r 0) (loudIn s r 1) (a .0) in
-    let same : Heard h ≡ Heard (sharesOf s r) = sym (o .1) in
-    let eq : h ≡ sharesOf s r = cc in
-    let sound : Sound (sharesOf s r) = record { day = share-most s r 0 (b .0); evening = share-most s r 1 (b .1); night = share-most s r 2 (a .1) } in
-    (eq, subst Sound (sym eq) sound)
+unless-barred : (t : Bool) (b : Bar) (p : Pair) (i : ℕ) → shareIn (Barred b) i ≤ mostShare → (t ≡ false → shareIn p i ≤ mostShare) → shareIn (cond t (Barred b) p) i ≤ mostShare
+unless-barred true b p i n f = n
+unless-barred false b p i n f = f refl
+
+pub pair-bounded : Bounded pairOf
+unfolding pairOf
+pair-bounded s r i =
+    unless-barred (ltb (spaceSquare s r) 250000) Near _ i (nothing-brought s r Near i) λ near.
+    unless-barred (ltb 40000000000 (spaceSquare s r)) Far _ i (nothing-brought s r Far i) λ far.
+    unless-barred (ltb (spaceSquare s r) (4 * square (s .length))) Long _ i (nothing-brought s r Long i) λ long.
+    unless-barred (loudIn s r 0 || loudIn s r 1 || loudIn s r 2) Loud _ i (nothing-brought s r Loud i) λ quiet.
+    no-loud s r quiet i
+
+-- the case of a pair that is in reach and nowhere loud
+pub pair-heard : (s : Source) (r : Receiver) → 250000 ≤ spaceSquare s r → spaceSquare s r ≤ 40000000000 → 4 * square (s .length) ≤ spaceSquare s r
+    → (loudIn s r 0 || loudIn s r 1 || loudIn s r 2) ≡ false → pairOf s r ≡ Heard (sharesOf s r)
+pair-heard s r a b h e = pair-within s r a b h ∙ hear-is s r ∙ ap (λ (t : Bool). cond t (Barred Loud) (Heard (sharesOf s r))) e

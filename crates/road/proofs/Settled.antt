@@ -33,8 +33,8 @@ gradient-settled l a = settled _ _
 walls-settled : SettlesResult proofs.emission.walls.Reads.Post
 walls-settled l a = settled _ _
 
-voices-settled : SettlesResult proofs.emission.voices.Reads.Post
-voices-settled l a = settled _ _
+send-settled : SettlesResult proofs.emission.send.Reads.Post
+send-settled l a = settled _ _
 
 source-fields-settled : SettlesResult proofs.judge.source_fields.Reads.Post
 source-fields-settled l a = settled _ _

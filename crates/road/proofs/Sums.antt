@@ -20,7 +20,7 @@ use Rattle.road.specs.declared.Part.{Part}
 use Rattle.road.specs.Term.{term, adds, takes, _⊕_, period}
 use Rattle.road.specs.Emission.{vehicles, trafficTerm, carSpeed, truckSpeed, carLevel, truckLevel, truckGain, speedTerm, surfaceTable, surfaceColumn, surfaceEntry, surfaceTerm, gradientTerm, reflectionTable, reflectionTerm, emissionLevel}
 use Rattle.road.specs.Reach.{lengthTerm, distanceTerm, groundTerm, wallsTerm, weatherTerm, energyShare, tooLoud}
-use Rattle.road.specs.Limits.{mostVehicles, allTrucks}
+use Rattle.road.specs.Limits.{longest, mostVehicles, allTrucks}
 use Rattle.road.specs.Judge.{sourceVerdict}
 use Rattle.road.specs.Inner.{paceOf, speedBy, steadyTerm, silent, voiceBy, voiceOf, voicesOf, voicedPart, Modest, Moderate}
 use Rattle.road.proofs.Bounds.{times, lv-small, car-most, gain-small, gain-energy}
@@ -127,18 +127,20 @@ paced s =
       gain = omega (arith, gain-energy (truckGain v u) (gain-small v u (omega arith) (omega arith) (omega arith)));
     }
 
-pub small-steady : (s : Source) → FitSource s → Small 20000 (steadyTerm s)
-unfolding lengthTerm
-small-steady s f =
+pub small-steady : (s : Source) → Small 20000 (steadyTerm s)
+small-steady s =
     let a = small-surface (s .surface) (carSpeed (s .car)) in
     let b = small-gradient (s .gradient) in
     let d = small-reflection (s .reflection) in
     let w = small-walls (s .walls) (s .height) (s .spacing) in
-    let l = lv-small (s .length) (f .some) (omega (arith, f .short)) in
     record {
-      up = omega (arith, a .up, b .up, d .up, w .up, l);
+      up = omega (arith, a .up, b .up, d .up, w .up);
       down = omega (arith, a .down, b .down, d .down, w .down);
     }
+
+pub small-length : (l : ℕ) → 1 ≤ l → l ≤ longest → Small 20000 (lengthTerm l)
+unfolding lengthTerm
+small-length l a b = record { up = omega (arith, lv-small l a (omega arith)); down = omega arith }
 
 -- ---- the voice of a source
 
@@ -162,40 +164,37 @@ voice-is s i = ap (cond (eqb (period s i .m) 0) silent) (λ j. record { sounds =
     d : Term
     d = reflectionTerm (s .reflection)
 
-    l : Term
-    l = lengthTerm (s .length)
-
     w : Term
     w = wallsTerm (s .walls) (s .height) (s .spacing)
 
-    same : t ⊕ v ⊕ (a ⊕ b ⊕ d ⊕ l ⊕ w) ≡ t ⊕ v ⊕ a ⊕ b ⊕ d ⊕ l ⊕ w
+    same : t ⊕ v ⊕ (a ⊕ b ⊕ d ⊕ w) ≡ t ⊕ v ⊕ a ⊕ b ⊕ d ⊕ w
     same = term-eq _ _ (omega arith) (omega arith)
 
 modest-cond : (b : Bool) (v : Voice) → Modest v → Modest (cond b silent v)
 modest-cond true v h = record { up = omega arith; down = omega arith }
 modest-cond false v h = h
 
-modest-some : (s : Source) (i m : ℕ) → FitSource s → FitTraffic (period s i .m) (period s i .p) → period s i .m ≡ suc m → Modest (voiceBy (s .lanes) (paceOf s) (steadyTerm s) (period s i))
-modest-some s i m f t e =
+modest-some : (s : Source) (i m : ℕ) → FitTraffic (period s i .m) (period s i .p) → period s i .m ≡ suc m → Modest (voiceBy (s .lanes) (paceOf s) (steadyTerm s) (period s i))
+modest-some s i m t e =
     let a = small-traffic (s .lanes) (period s i) (weighed (period s i) (omega arith) (t .few) (t .part)) in
     let b = small-speed (paceOf s) (period s i .p) (paced s) (t .part) in
-    let d = small-steady s f in
+    let d = small-steady s in
     modest-cond (eqb (period s i .m) 0) _
     (record { up = omega (arith, a .up, b .up, d .up); down = omega (arith, a .down, b .down, d .down) })
 
 modest-none : (s : Source) (i : ℕ) → period s i .m ≡ 0 → Modest (voiceBy (s .lanes) (paceOf s) (steadyTerm s) (period s i))
 modest-none s i e = rw (eq-eqb (period s i .m) 0 e) (record { up = omega arith; down = omega arith })
 
-pub modest : (s : Source) (i : ℕ) → FitSource s → FitTraffic (period s i .m) (period s i .p) → Modest (voiceOf s i)
-modest s i f t = rw (← voice-is s i) (go (period s i .m) refl)
+pub modest : (s : Source) (i : ℕ) → FitTraffic (period s i .m) (period s i .p) → Modest (voiceOf s i)
+modest s i t = rw (← voice-is s i) (go (period s i .m) refl)
   where
     go : (m : ℕ) → period s i .m ≡ m → Modest (voiceBy (s .lanes) (paceOf s) (steadyTerm s) (period s i))
     go zero e = modest-none s i e
-    go (suc m) e = modest-some s i m f t e
+    go (suc m) e = modest-some s i m t e
 
 pub moderate : (s : Source) → FitSource s → Moderate (voicesOf s)
 unfolding voicesOf
-moderate s f = record { day = modest s 0 f (f .day); evening = modest s 1 f (f .evening); night = modest s 2 f (f .night) }
+moderate s f = record { day = modest s 0 (f .day); evening = modest s 1 (f .evening); night = modest s 2 (f .night) }
 
 -- ---- the share of a voice, case by case: u and d are the two sides of its level at the point
 

@@ -1,4 +1,4 @@
--- Values that only inner functions of this crate and of reach hand on: what a road sends out, and a share before it is pairBy to the caller.
+-- Values that only inner functions of this crate and of reach hand on: what a road sends out, and a share before it is told to the caller.
 -- A reader of the promises can pass over this file.
 use Prim.Native.Nat.{ℕ, _+_, _-_, _*_, _≤_}
 use mathlib.Core.Bool.{Bool, true, false, cond, not, _||_}
@@ -12,6 +12,7 @@ use Rattle.road.specs.declared.Source.{Source}
 use Rattle.road.specs.declared.Traffic.{Traffic}
 use Rattle.road.specs.declared.Voice.{Voice}
 use Rattle.road.specs.declared.Part.{Part}
+use Rattle.road.specs.declared.Sent.{Sent}
 use Rattle.road.specs.declared.emission.Pace.{Pace}
 use Rattle.road.specs.Term.{term, _⊕_, period}
 use Rattle.road.specs.Emission.{emissionLevel, trafficTerm, surfaceTerm, gradientTerm, reflectionTerm, carSpeed, truckSpeed, truckGain, carLevel}
@@ -30,10 +31,10 @@ paceOf s = record {
 abbrev pub speedBy : Pace → ℕ → Term
 speedBy pace p = term (pace .car + lvOf (1000000000 + pace .gain * p)) (3730 + lvOf (100000 + 823 * p) + 4000)
 
--- the terms that are the same in every period and at every point
+-- the terms that are the same in every period, at every point and for every piece of the road
 abbrev pub steadyTerm : Source → Term
 steadyTerm s =
-    surfaceTerm (s .surface) (carSpeed (s .car)) ⊕ gradientTerm (s .gradient) ⊕ reflectionTerm (s .reflection) ⊕ lengthTerm (s .length)
+    surfaceTerm (s .surface) (carSpeed (s .car)) ⊕ gradientTerm (s .gradient) ⊕ reflectionTerm (s .reflection)
     ⊕ wallsTerm (s .walls) (s .height) (s .spacing)
 
 abbrev pub silent : Voice
@@ -43,18 +44,17 @@ abbrev pub voiceBy : ℕ → Pace → Term → Traffic → Voice
 voiceBy lanes pace steady t =
     cond (eqb (t .m) 0) silent (record { sounds = true; level = trafficTerm lanes t ⊕ speedBy pace (t .p) ⊕ steady })
 
--- what the source sends out in the period i
+-- what a metre of the source sends out in the period i
 unfoldable pub voiceOf : Source → ℕ → Voice
 voiceOf s i =
-    cond (eqb (period s i .m) 0)
-    silent
-    (record {
-      sounds = true;
-      level = emissionLevel s i ⊕ lengthTerm (s .length) ⊕ wallsTerm (s .walls) (s .height) (s .spacing);
-    })
+    cond (eqb (period s i .m) 0) silent (record { sounds = true; level = emissionLevel s i ⊕ wallsTerm (s .walls) (s .height) (s .spacing) })
 
 unfoldable pub voicesOf : Source → List Voice
 voicesOf s = voiceOf s 0 ∷ voiceOf s 1 ∷ voiceOf s 2 ∷ []
+
+-- that, and what its length adds
+abbrev pub sentOf : Source → Sent
+sentOf s = record { voices = voicesOf s; length = lengthTerm (s .length) }
 
 -- the share of a voice by a way
 unfoldable pub voicedPart : Voice → Term → Part
@@ -75,17 +75,17 @@ pub record Moderate (vs : List Voice) : Type 0 where
   pub evening : Modest (getD vs 1 silent)
   pub night : Modest (getD vs 2 silent)
 
--- the way in the period i: distance, ground, weather
-abbrev pub wayOf : ℕ → ℕ → ℕ → ℕ → Term
-wayOf q0 q h i = distanceTerm q (rootOf q) ⊕ groundTerm h (rootOf q) ⊕ weatherTerm (weatherOf i) h (rootOf q0)
+-- what is added on the way in the period i: the length's term l, distance, ground, weather
+abbrev pub wayOf : Term → ℕ → ℕ → ℕ → ℕ → Term
+wayOf l q0 q h i = l ⊕ (distanceTerm q (rootOf q) ⊕ groundTerm h (rootOf q)) ⊕ weatherTerm (weatherOf i) h (rootOf q0)
 
-abbrev pub partIn : List Voice → ℕ → ℕ → ℕ → ℕ → Part
-partIn vs q0 q h i = voicedPart (getD vs i silent) (wayOf q0 q h i)
+abbrev pub partIn : List Voice → Term → ℕ → ℕ → ℕ → ℕ → Part
+partIn vs l q0 q h i = voicedPart (getD vs i silent) (wayOf l q0 q h i)
 
 abbrev pub pairBy : Part → Part → Part → Pair
 pairBy day evening night =
     cond (day .loud || evening .loud || night .loud) (Barred Loud)
     (Heard (record { day = day .energy; evening = evening .energy; night = night .energy }))
 
-unfoldable pub hearOf : List Voice → ℕ → ℕ → ℕ → Pair
-hearOf vs q0 q h = pairBy (partIn vs q0 q h 0) (partIn vs q0 q h 1) (partIn vs q0 q h 2)
+unfoldable pub hearOf : List Voice → Term → ℕ → ℕ → ℕ → Pair
+hearOf vs l q0 q h = pairBy (partIn vs l q0 q h 0) (partIn vs l q0 q h 1) (partIn vs l q0 q h 2)

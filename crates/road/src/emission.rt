@@ -1,5 +1,6 @@
 // What a road gives out (VBUS section 3.5), worked out once for a source, whatever the points are.
 // The terms are those of specs/Emission.antt, one function for each.
+use crate::Sent;
 use crate::Source;
 use crate::Term;
 use crate::Traffic;
@@ -12,9 +13,9 @@ ghost use Rattle.road.specs.declared.Verdict.the-variants.{Allowed};
 ghost use Rattle.road.specs.Term.{_⊕_};
 ghost use Rattle.road.specs.Emission.{trafficTerm, carSpeed, truckSpeed, carLevel, truckLevel, truckGain, speedTerm, surfaceColumn, surfaceTerm, gradientTerm, reflectionTerm};
 ghost use Rattle.road.specs.Reach.{lengthTerm, wallsTerm};
-ghost use Rattle.road.specs.Limits.{lastSurface, lastReflection, mostVehicles, allTrucks};
+ghost use Rattle.road.specs.Limits.{longest, lastSurface, lastReflection, mostVehicles, allTrucks};
 ghost use Rattle.road.specs.Judge.{sourceVerdict};
-ghost use Rattle.road.specs.Inner.{paceOf, speedBy, steadyTerm, voiceBy, voicesOf};
+ghost use Rattle.road.specs.Inner.{paceOf, speedBy, steadyTerm, voiceBy, voicesOf, sentOf};
 
 // How many surfaces and how many codes of reflection there are.
 pub const SURFACES: usize = 9;
@@ -197,21 +198,29 @@ fn least(a: u32, b: u32) -> u32
     b
 }
 
-// The terms that are the same in every period and at every point.
-fn steady_of(steps: &[u32; 1000], s: Source) -> Term
-    requires { ⌜ (now steps ≡ table) × (sourceVerdict s ≡ Allowed) ⌝ }
+// The terms that are the same in every period, at every point and for every piece of the road.
+fn steady_of(s: Source) -> Term
+    requires { ⌜ sourceVerdict s ≡ Allowed ⌝ }
     ensures { λ r. ⌜ r ≡ steadyTerm s ⌝ }
 {
     let on = surface(s.surface, within(30, 130, s.car as u64));
-    let up = on.up
-        + gradient(s.gradient)
-        + level::lv(steps, s.length as u64)
-        + walls(s.walls, s.height, s.spacing);
-    let down = on.down + reflection(s.reflection) + 2000;
+    let up = on.up + gradient(s.gradient) + walls(s.walls, s.height, s.spacing);
+    let down = on.down + reflection(s.reflection);
     Term { up: up, down: down }
 }
 
-// What a source sends out in one period.
+// Section 3.4: what a length adds.
+fn length(steps: &[u32; 1000], l: u32) -> Term
+    requires { ⌜ (now steps ≡ table) × (1 ≤ l) × (l ≤ longest) ⌝ }
+    ensures { λ r. ⌜ r ≡ lengthTerm l ⌝ }
+{
+    Term {
+        up: level::lv(steps, l as u64),
+        down: 2000,
+    }
+}
+
+// What a metre of a source sends out in one period.
 fn voice(steps: &[u32; 1000], lanes: u8, pace: Pace, steady: Term, t: Traffic) -> Voice
     requires { ⌜ (now steps ≡ table) × (pace .car ≤ 20000) × (pace .gain < 1000000000) × (t .m ≤ mostVehicles) × (t .p ≤ allTrucks) ⌝ }
     requires { ⌜ (steady .up ≤ 20000) × (steady .down ≤ 20000) ⌝ }
@@ -233,16 +242,26 @@ fn voice(steps: &[u32; 1000], lanes: u8, pace: Pace, steady: Term, t: Traffic) -
     }
 }
 
-// What a source sends out by day, in the evening and at night.
-pub fn voices(steps: &[u32; 1000], s: Source) -> [Voice; 3]
+// What a metre of a source sends out by day, in the evening and at night.
+fn voices(steps: &[u32; 1000], s: Source) -> [Voice; 3]
     requires { ⌜ (now steps ≡ table) × (sourceVerdict s ≡ Allowed) ⌝ }
     ensures { λ r. ⌜ r ≡ voicesOf s ⌝ }
 {
     let pace = pace_of(steps, s);
-    let steady = steady_of(steps, s);
+    let steady = steady_of(s);
     let traffic = s.traffic;
     let day = voice(steps, s.lanes, pace, steady, traffic[0]);
     let evening = voice(steps, s.lanes, pace, steady, traffic[1]);
     let night = voice(steps, s.lanes, pace, steady, traffic[2]);
     [day, evening, night]
+}
+
+// What a source sends out, worked out once for all points.
+pub fn send(steps: &[u32; 1000], s: Source) -> Sent
+    requires { ⌜ (now steps ≡ table) × (sourceVerdict s ≡ Allowed) ⌝ }
+    ensures { λ r. ⌜ r ≡ sentOf s ⌝ }
+{
+    let voices = voices(steps, s);
+    let length = length(steps, s.length);
+    Sent { voices, length }
 }

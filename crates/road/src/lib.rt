@@ -43,10 +43,16 @@ pub struct Term {
     pub down: u32,
 }
 
-// What a road sends out in one period, before distance: whether there is traffic at all, and its level.
+// What a metre of road sends out in one period: whether there is traffic at all, and its level.
 pub struct Voice {
     pub sounds: bool,
     pub level: Term,
+}
+
+// What a road sends out: its voices by day, in the evening and at night, and what its length adds.
+pub struct Sent {
+    pub voices: [Voice; 3],
+    pub length: Term,
 }
 
 // A share before it is told: too loud, or an energy.

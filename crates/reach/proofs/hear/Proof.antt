@@ -28,67 +28,81 @@ root-requires c κs = search needs
 
 -- the two roots are in range
 near : (c : tie.After-root) → Reached (c .root .result)
-near c = let p = c .before .pre in reached (c .before .args .q0) _ (p .2) (omega (arith, p .3, p .4)) (c .root .ensures)
+near c = let p = c .before .pre .0 in reached (c .before .args .q0) _ (p .2) (omega (arith, p .3, p .4)) (c .root .ensures)
 
 far : (c : tie.After-root-from) → Reached (c .root-from .result)
-far c = let p = c .before .before .pre in reached (c .before .before .args .q) _ (omega (arith, p .2, p .3)) (p .4) (c .root-from .ensures)
+far c = let p = c .before .before .pre .0 in reached (c .before .before .args .q) _ (omega (arith, p .2, p .3)) (p .4) (c .root-from .ensures)
 
 add-root-from : tie.Need-add-root-from
 add-root-from c = record { fits = omega (arith, near c .most) }
 
 root-from-requires : tie.Need-root-from-requires
-root-from-requires c κs = (omega (arith, c .before .pre .2, c .before .pre .3), omega (arith, near c .some), omega (arith, near c .most))
+root-from-requires c κs = let p = c .before .pre .0 in (omega (arith, p .2, p .3), omega (arith, near c .some), omega (arith, near c .most))
 
 way-requires : tie.Need-way-requires
 way-requires c κs =
-    let p = c .before .before .pre in
+    let p = c .before .before .pre .0 in
     (p .0, omega (arith, p .2, p .3), p .4, p .5, far c .some, far c .most)
 
--- the way is small
-short : (c : tie.After-way) → Small 100000 (c .way .result)
+-- distance and ground are small, and the length's term with them
+short : (c : tie.After-way) → Small 50000 (c .way .result)
 short c =
     let a = c .before .before .before .args in
-    let p = c .before .before .before .pre in
+    let p = c .before .before .before .pre .0 in
     rw (c .way .ensures) (small-way (a .q) (c .before .root-from .result) (a .h) (omega (arith, p .2, p .3)) (p .4) (far (c .before) .most))
+
+abbrev whole : tie.After-way → Term
+whole c = c .before .before .before .args .length ⊕ c .way .result
+
+whole-short : (c : tie.After-way) → Small 100000 (whole c)
+whole-short c =
+    let l = c .before .before .before .pre .1 in
+    record { up = omega (arith, l .0, short c .up); down = omega (arith, l .1, short c .down) }
+
+add-up : tie.Need-add-up
+add-up c = let w = c .before .before in omega (arith, w .before .before .before .pre .1 .0, short w .up)
+
+add-down : tie.Need-add-down
+add-down c = let w = c .before .before .before .before in omega (arith, w .before .before .before .pre .1 .1, short w .down)
 
 array-copy-out-share : tie.Need-array-copy-out-share
 array-copy-out-share c = search needs
 
 share-requires : tie.Need-share-requires
 share-requires c κs =
-    let w = c .before in
-    let p = w .before .before .before .pre in
-    ((p .0, p .1 .day, short w .up, short w .down), (omega arith, p .5, near (w .before .before) .some, near (w .before .before) .most))
+    let w = c .before .before .before .before .before in
+    let p = w .before .before .before .pre .0 in
+    ((p .0, p .1 .day, whole-short w .up, whole-short w .down), (omega arith, p .5, near (w .before .before) .some, near (w .before .before) .most))
 
 array-copy-out-share-2 : tie.Need-array-copy-out-share-2
 array-copy-out-share-2 c = search needs
 
 share-requires-2 : tie.Need-share-requires-2
 share-requires-2 c κs =
-    let w = c .before .before .before in
-    let p = w .before .before .before .pre in
-    ((p .0, p .1 .evening, short w .up, short w .down), (omega arith, p .5, near (w .before .before) .some, near (w .before .before) .most))
+    let w = c .before .before .before .before .before .before .before in
+    let p = w .before .before .before .pre .0 in
+    ((p .0, p .1 .evening, whole-short w .up, whole-short w .down), (omega arith, p .5, near (w .before .before) .some, near (w .before .before) .most))
 
 array-copy-out-share-3 : tie.Need-array-copy-out-share-3
 array-copy-out-share-3 c = search needs
 
 share-requires-3 : tie.Need-share-requires-3
 share-requires-3 c κs =
-    let w = c .before .before .before .before .before in
-    let p = w .before .before .before .pre in
-    ((p .0, p .1 .night, short w .up, short w .down), (omega arith, p .5, near (w .before .before) .some, near (w .before .before) .most))
+    let w = c .before .before .before .before .before .before .before .before .before in
+    let p = w .before .before .before .pre .0 in
+    ((p .0, p .1 .night, whole-short w .up, whole-short w .down), (omega arith, p .5, near (w .before .before) .some, near (w .before .before) .most))
 
 -- the share by the way and the root that were found is the part of the period
-heard : (c : tie.After-way) (i : ℕ) (x : Part)
-    → x ≡ voicedPart (getD (c .before .before .before .args .t2) i silent) (c .way .result ⊕ weatherTerm (weatherOf i) (c .before .before .before .args .h) (c .before .before .root .result))
-    → x ≡ partIn (c .before .before .before .args .t2) (c .before .before .before .args .q0) (c .before .before .before .args .q) (c .before .before .before .args .h) i
+heard : (c : tie.After-way) (i : ℕ) (x : Part) → let a = c .before .before .before .args in
+    x ≡ voicedPart (getD (a .t2) i silent) (whole c ⊕ weatherTerm (weatherOf i) (a .h) (c .before .before .root .result))
+    → x ≡ partIn (a .t2) (a .length) (a .q0) (a .q) (a .h) i
 heard c i x e =
     let a = c .before .before .before .args in
     let f : c .before .root-from .result ≡ rootOf (a .q) = root-settled (a .q) _ (c .before .root-from .ensures) in
     let n : c .before .before .root .result ≡ rootOf (a .q0) = root-settled (a .q0) _ (c .before .before .root .ensures) in
     let w : c .way .result ≡ distanceTerm (a .q) (rootOf (a .q)) ⊕ groundTerm (a .h) (rootOf (a .q)) =
     c .way .ensures ∙ ap (λ (r : ℕ). distanceTerm (a .q) r ⊕ groundTerm (a .h) r) f in
-    e ∙ (λ j. voicedPart (getD (a .t2) i silent) (w j ⊕ weatherTerm (weatherOf i) (a .h) (n j)))
+    e ∙ (λ j. voicedPart (getD (a .t2) i silent) (a .length ⊕ w j ⊕ weatherTerm (weatherOf i) (a .h) (n j)))
 
 told-loud : (a b d : Part) → (a .loud || b .loud || d .loud) ≡ true → pairBy a b d ≡ Barred Loud
 told-loud a b d e = rw e
@@ -98,10 +112,11 @@ told-heard a b d e = rw e
 
 module _ (c : tie.After-share3) where
   abbrev way : tie.After-way
-  way = c .before .before .before .before .before .before
+  way = c .before .before .before .before .before .before .before .before .before .before
 
-  parts : pairBy (c .before .before .before .before .share .result) (c .before .before .share2 .result) (c .share3 .result)
-      ≡ hearOf (way .before .before .before .args .t2) (way .before .before .before .args .q0) (way .before .before .before .args .q) (way .before .before .before .args .h)
+  parts : let a = way .before .before .before .args in
+      pairBy (c .before .before .before .before .share .result) (c .before .before .share2 .result) (c .share3 .result)
+      ≡ hearOf (a .t2) (a .length) (a .q0) (a .q) (a .h)
   unfolding hearOf
   parts =
       let day = heard way 0 _ (c .before .before .before .before .share .ensures) in
@@ -120,4 +135,4 @@ returns-2 c =
     sym (told-heard (s .before .before .before .before .share .result) (s .before .before .share2 .result) (s .share3 .result) (c .if1 .left)) ∙ parts s
 
 pub hear-spec : {M : Type 1} → statement M
-hear-spec = tie.close (tie.spec root-requires add-root-from root-from-requires way-requires array-copy-out-share share-requires array-copy-out-share-2 share-requires-2 array-copy-out-share-3 share-requires-3 returns returns-2)
+hear-spec = tie.close (tie.spec root-requires add-root-from root-from-requires way-requires add-up add-down array-copy-out-share share-requires array-copy-out-share-2 share-requires-2 array-copy-out-share-3 share-requires-3 returns returns-2)

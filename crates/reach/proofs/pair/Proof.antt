@@ -6,10 +6,10 @@ use borrow.Author.Needs.{needs}
 use Rattle.road.specs.declared.Voice.{Voice}
 use Rattle.road.specs.Limits.{coordinate, longest, highestReceiver}
 use Rattle.road.specs.Reach.{sourceHeight, square, planSquare, spaceSquare, rayHeight}
-use Rattle.road.specs.Inner.{voicesOf, hearOf, Moderate}
+use Rattle.road.specs.Inner.{hearOf}
 use Rattle.road.proofs.Bounds.{times}
 use Rattle.road.proofs.Fit.{FitSource, FitReceiver, fit-source, fit-receiver}
-use Rattle.road.proofs.Sums.{moderate}
+use Rattle.road.proofs.Sums.{moderate, small-length}
 use Rattle.road.proofs.Pairs.{pair-near, pair-far, pair-long, pair-within}
 use mathlib.Core.List.{List}
 use Rattle.reach.proofs.pair.Statement.{statement}
@@ -92,23 +92,26 @@ cast-h c = search needs
 
 hear-requires : tie.Need-hear-requires
 hear-requires c κs =
-    let p = c .before .before .before .before .before in
+    let p = c .before .before .before .before .before .before in
     let start = begun p in
     let f = start .pre in
-    let near = c .before .before .before .before .if1 .left in
-    let far = c .before .before .before .if2 .left in
-    (f .0, rw (f .2) (moderate (start .args .s) (source start)), omega (arith, near, rise start, p .space .ensures), omega (arith, p .space .ensures), omega (arith, far), omega (arith, receiver start .high))
+    let near = c .before .before .before .before .before .if1 .left in
+    let far = c .before .before .before .before .if2 .left in
+    let l = small-length (start .args .s .length) (source start .some) (source start .short) in (
+      (f .0, rw (f .2) (moderate (start .args .s) (source start)), omega (arith, near, rise start, p .space .ensures), omega (arith, p .space .ensures), omega (arith, far), omega (arith, receiver start .high)),
+      (rw (f .2) (l .up), rw (f .2) (l .down)),
+    )
 
 returns-4 : tie.Need-returns-4
 returns-4 c =
-    let p = c .before .before .before .before .before .before in
+    let p = c .before .before .before .before .before .before .before in
     let start = begun p in
     let a = start .args in
     let vs = start .pre .2 in
-    let near = c .before .before .before .before .before .if1 .left in
-    let far = c .before .before .before .before .if2 .left in
-    let short = c .before .before .if3 .left in
-    c .hear .ensures ∙ (λ i. hearOf (vs i) (p .before .plan .ensures i) (space p i) (rayHeight (a .r)))
+    let near = c .before .before .before .before .before .before .if1 .left in
+    let far = c .before .before .before .before .before .if2 .left in
+    let short = c .before .before .before .if3 .left in
+    c .hear .ensures ∙ (λ i. hearOf (vs i .voices) (vs i .length) (p .before .plan .ensures i) (space p i) (rayHeight (a .r)))
     ∙ sym (pair-within (a .s) (a .r) (omega (arith, space p, near)) (omega (arith, space p, far)) (omega (arith, space p, short)))
 
 pub pair-spec : {M : Type 1} → statement M

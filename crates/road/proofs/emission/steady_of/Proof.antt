@@ -5,8 +5,7 @@ use native.Mathlib.Omega.{arith}
 use borrow.Author.Needs.{needs}
 use Rattle.road.specs.declared.Term.{Term}
 use Rattle.road.specs.Emission.{carSpeed, surfaceTerm, gradientTerm, reflectionTerm}
-use Rattle.road.specs.Reach.{lengthTerm, wallsTerm}
-use Rattle.road.proofs.Bounds.{lv-small}
+use Rattle.road.specs.Reach.{wallsTerm}
 use Rattle.road.proofs.Fit.{fit-source}
 use Rattle.road.proofs.Sums.{term-eq, small-surface, small-gradient, small-reflection, small-walls}
 use Rattle.road.proofs.emission.steady_of.Statement.{statement}
@@ -21,7 +20,7 @@ within-requires c κs = search needs
 surface-requires : tie.Need-surface-requires
 surface-requires c κs =
     let start = c .before .before in
-    let f = fit-source (start .args .s) (start .pre .1) in
+    let f = fit-source (start .args .s) (start .pre) in
     (f .paved, f .known)
 
 gradient-requires : tie.Need-gradient-requires
@@ -46,61 +45,34 @@ add-up c =
     let start = c .before .before .before .before .before in
     omega (arith, on-up (c .before .before), c .before .gradient .ensures, small-gradient (start .args .s .gradient) .up)
 
-cast-lv : tie.Need-cast-lv
-cast-lv c = search needs
-
-lv-requires : tie.Need-lv-requires
-lv-requires c κs =
-    let start = c .before .before .before .before .before .before in
-    let f = fit-source (start .args .s) (start .pre .1) in
-    (start .pre .0, f .some, omega (arith, f .short))
-
--- the length's level
-long : (c : tie.After-lv) → c .lv .result < 14000
-long c =
-    let start = c .before .before .before .before .before .before .before in
-    let f = fit-source (start .args .s) (start .pre .1) in
-    omega (arith, c .lv .ensures, lv-small (start .args .s .length) (f .some) (omega (arith, f .short)))
+walls-requires : tie.Need-walls-requires
+walls-requires c κs =
+    let start = c .before .before .before .before .before in
+    fit-source (start .args .s) (start .pre) .spaced
 
 add-up-2 : tie.Need-add-up-2
 add-up-2 c =
-    let start = c .before .before .before .before .before .before .before in
-    omega (arith, on-up (c .before .before .before .before), c .before .before .before .gradient .ensures, small-gradient (start .args .s .gradient) .up, long c)
-
-walls-requires : tie.Need-walls-requires
-walls-requires c κs =
-    let start = c .before .before .before .before .before .before .before in
-    fit-source (start .args .s) (start .pre .1) .spaced
-
-add-up-3 : tie.Need-add-up-3
-add-up-3 c =
-    let start = c .before .before .before .before .before .before .before .before in
+    let start = c .before .before .before .before .before .before in
     let s = start .args .s in
-    omega (arith, on-up (c .before .before .before .before .before), c .before .before .before .before .gradient .ensures, small-gradient (s .gradient) .up, long (c .before), c .walls .ensures, small-walls (s .walls) (s .height) (s .spacing) .up)
+    omega (arith, on-up (c .before .before .before), c .before .before .gradient .ensures, small-gradient (s .gradient) .up, c .walls .ensures, small-walls (s .walls) (s .height) (s .spacing) .up)
 
 reflection-requires : tie.Need-reflection-requires
 reflection-requires c κs =
-    let start = c .before .before .before .before .before .before .before .before in
-    omega (arith, fit-source (start .args .s) (start .pre .1) .coded)
+    let start = c .before .before .before .before .before .before in
+    omega (arith, fit-source (start .args .s) (start .pre) .coded)
 
 add-down : tie.Need-add-down
 add-down c =
-    let start = c .before .before .before .before .before .before .before .before .before .before in
-    omega (arith, on-down (c .before .before .before .before .before .before .before), c .before .reflection .ensures, small-reflection (start .args .s .reflection) .down)
-
-add-down-2 : tie.Need-add-down-2
-add-down-2 c =
-    let start = c .before .before .before .before .before .before .before .before .before .before in
-    omega (arith, on-down (c .before .before .before .before .before .before .before), c .before .reflection .ensures, small-reflection (start .args .s .reflection) .down)
+    let start = c .before .before .before .before .before .before .before .before in
+    omega (arith, on-down (c .before .before .before .before .before), c .before .reflection .ensures, small-reflection (start .args .s .reflection) .down)
 
 returns : tie.Need-returns
-unfolding gradientTerm reflectionTerm lengthTerm wallsTerm
+unfolding gradientTerm reflectionTerm wallsTerm
 returns c =
-    let s = c .before .before .before .before .before .before .before .before .before .before .args .s in
-    let on = on-is (c .before .before .before .before .before .before .before) in
+    let on = on-is (c .before .before .before .before .before) in
     term-eq _ _
-    (omega (arith, ap (λ (t : Term). t .up) on, c .before .before .before .before .before .before .gradient .ensures, c .before .before .before .lv .ensures, c .before .before .walls .ensures))
+    (omega (arith, ap (λ (t : Term). t .up) on, c .before .before .before .before .gradient .ensures, c .before .before .walls .ensures))
     (omega (arith, ap (λ (t : Term). t .down) on, c .before .reflection .ensures))
 
 pub steady-of-spec : {M : Type 1} → statement M
-steady-of-spec = tie.close (tie.spec cast-within within-requires surface-requires gradient-requires add-up cast-lv lv-requires add-up-2 walls-requires add-up-3 reflection-requires add-down add-down-2 returns)
+steady-of-spec = tie.close (tie.spec cast-within within-requires surface-requires gradient-requires add-up walls-requires add-up-2 reflection-requires add-down returns)

@@ -18,8 +18,8 @@ use Rattle.road.proofs.emission.voices.Tie as tie
 pace-small : (s : Source) (p : Pace) → p ≡ paceOf s → Paced p
 pace-small s p e = rw e (paced s)
 
-steady-small : (s : Source) (t : Term) → FitSource s → t ≡ steadyTerm s → Small 20000 t
-steady-small s t f e = rw e (small-steady s f)
+steady-small : (s : Source) (t : Term) → t ≡ steadyTerm s → Small 20000 t
+steady-small s t e = rw e (small-steady s)
 
 -- and the voice by them is the source's
 voiced : (s : Source) (i : ℕ) (p : Pace) (t : Term) (v : Voice) → p ≡ paceOf s → t ≡ steadyTerm s → v ≡ voiceBy (s .lanes) p t (period s i) → v ≡ voiceOf s i
@@ -39,7 +39,7 @@ voice-requires c κs =
     let start = c .before .before .before .before in
     let f = fit-source (start .args .s) (start .pre .1) in
     let p = pace-small (start .args .s) _ (c .before .before .before .pace-of .ensures) in
-    let t = steady-small (start .args .s) _ f (c .before .before .steady-of .ensures) in
+    let t = steady-small (start .args .s) _ (c .before .before .steady-of .ensures) in
     ((start .pre .0, p .car, p .gain, f .day .few, f .day .part), (t .up, t .down))
 
 array-copy-out-voice-2 : tie.Need-array-copy-out-voice-2
@@ -50,7 +50,7 @@ voice-requires-2 c κs =
     let start = c .before .before .before .before .before .before in
     let f = fit-source (start .args .s) (start .pre .1) in
     let p = pace-small (start .args .s) _ (c .before .before .before .before .before .pace-of .ensures) in
-    let t = steady-small (start .args .s) _ f (c .before .before .before .before .steady-of .ensures) in
+    let t = steady-small (start .args .s) _ (c .before .before .before .before .steady-of .ensures) in
     ((start .pre .0, p .car, p .gain, f .evening .few, f .evening .part), (t .up, t .down))
 
 array-copy-out-voice-3 : tie.Need-array-copy-out-voice-3
@@ -61,7 +61,7 @@ voice-requires-3 c κs =
     let start = c .before .before .before .before .before .before .before .before in
     let f = fit-source (start .args .s) (start .pre .1) in
     let p = pace-small (start .args .s) _ (c .before .before .before .before .before .before .before .pace-of .ensures) in
-    let t = steady-small (start .args .s) _ f (c .before .before .before .before .before .before .steady-of .ensures) in
+    let t = steady-small (start .args .s) _ (c .before .before .before .before .before .before .steady-of .ensures) in
     ((start .pre .0, p .car, p .gain, f .night .few, f .night .part), (t .up, t .down))
 
 returns : tie.Need-returns
