@@ -18,8 +18,7 @@ use Rattle.road.specs.declared.Bar.{Bar}
 use Rattle.road.specs.declared.Pair.{Pair}
 use Rattle.road.specs.declared.Pair.the-variants.{Heard}
 use Rattle.road.specs.declared.Pair.the-variants.{Barred as Bars}
-use Rattle.road.specs.Reach.{shareOf, sharesOf, pairOf}
-use Rattle.road.proofs.Pairs.{heard-is}
+use Rattle.road.specs.Pairs.{Pairing, mostShare, shareIn, Bounded}
 use Rattle.store.specs.declared.Account.{Account}
 use Rattle.level.specs.Level.{top}
 use Rattle.store.specs.Account.{soundB, plusOf, roomB, nothing}
@@ -30,17 +29,17 @@ use Rattle.ledger.specs.declared.gather.Gathered.{Gathered}
 use Rattle.ledger.specs.Lists.{present, sumOf, barAt, orBar, firstBar, weigh}
 use Rattle.ledger.specs.Ledger.{stopOf, Gathering}
 
-module _ (r : Receiver) where
+module _ (pair : Pairing) (bounded : Bounded pair) (r : Receiver) where
   abbrev pairAt : Source → Pair
-  pairAt s = pairOf s r
+  pairAt s = pair s r
 
   abbrev total : ℕ → List (Option Source) → ℕ
-  total p l = sumOf (λ (s : Source). shareOf s r p) (present l)
+  total p l = sumOf (λ (s : Source). shareIn (pair s r) p) (present l)
 
   -- a sum so far: with the rest it makes the whole, and it is at most 10^15 for each slot passed
   pub record Part (l : List (Option Source)) (i p n : ℕ) : Type 0 where
     pub whole : n + total p (drop i l) ≡ total p l
-    pub small : n ≤ i * 1000000000000000
+    pub small : n ≤ i * mostShare
 
   pub record Gathers (l : List (Option Source)) (sums : Account) (i : ℕ) : Type 0 where
     pub stop : firstBar pairAt 0 l ≡ firstBar pairAt i (drop i l)
@@ -64,10 +63,10 @@ module _ (r : Receiver) where
       small = omega (arith, g .small);
     }
 
-    part-heard : (p n x : ℕ) (s : Source) → getD l i none ≡ some s → x ≡ shareOf s r p → x ≤ 1000000000000000 → Part l i p n → Part l (i + 1) p (n + x)
-    part-heard p n x s e f b g = record {
+    part-heard : (p n x : ℕ) (s : Source) → getD l i none ≡ some s → x ≡ shareIn (pair s r) p → Part l i p n → Part l (i + 1) p (n + x)
+    part-heard p n x s e f g = record {
       whole = omega (arith, ap (total p) (rest-is (some s) e), g .whole);
-      small = omega (arith, g .small);
+      small = omega (arith, g .small, bounded s r p);
     }
 
     module _ (sums : Account) (g : Gathers l sums i) where
@@ -84,31 +83,30 @@ module _ (r : Receiver) where
         night = part-free 2 _ e (g .night);
       }
 
-      pub gather-heard : (s : Source) (x : Shares) → getD l i none ≡ some s → pairOf s r ≡ Heard x → Gathers l (plusOf sums x) (i + 1)
-      unfolding firstBar sharesOf
+      pub gather-heard : (s : Source) (x : Shares) → getD l i none ≡ some s → pair s r ≡ Heard x → Gathers l (plusOf sums x) (i + 1)
+      unfolding firstBar
       gather-heard s x e t =
-          let k = heard-is s r x t in
           record {
             stop = stop-next (some s) e (ap (λ (q : Pair). orBar i q (firstBar pairAt (suc i) (drop (i + 1) l))) t);
-            day = part-heard 0 _ (x .day) s e (ap (λ (y : Shares). y .day) (k .0)) (k .1 .day) (g .day);
-            evening = part-heard 1 _ (x .evening) s e (ap (λ (y : Shares). y .evening) (k .0)) (k .1 .evening) (g .evening);
-            night = part-heard 2 _ (x .night) s e (ap (λ (y : Shares). y .night) (k .0)) (k .1 .night) (g .night);
+            day = part-heard 0 _ (x .day) s e (ap (λ (q : Pair). shareIn q 0) (sym t)) (g .day);
+            evening = part-heard 1 _ (x .evening) s e (ap (λ (q : Pair). shareIn q 1) (sym t)) (g .evening);
+            night = part-heard 2 _ (x .night) s e (ap (λ (q : Pair). shareIn q 2) (sym t)) (g .night);
           }
 
-      pub gather-room : (s : Source) (x : Shares) → i < sourceCount → pairOf s r ≡ Heard x → roomB sums x ≡ true
+      pub gather-room : (s : Source) (x : Shares) → i < sourceCount → pair s r ≡ Heard x → roomB sums x ≡ true
       gather-room s x b t =
-          let k = heard-is s r x t .1 in
-          let d : sums .day + x .day ≤ top = omega (arith, g .day .small, k .day) in
-          let e : sums .evening + x .evening ≤ top = omega (arith, g .evening .small, k .evening) in
-          let n : sums .night + x .night ≤ top = omega (arith, g .night .small, k .night) in
+          let k : (p : ℕ) → shareIn (Heard x) p ≤ mostShare = λ p. subst (λ (q : Pair). shareIn q p ≤ mostShare) t (bounded s r p) in
+          let d : sums .day + x .day ≤ top = omega (arith, g .day .small, k 0) in
+          let e : sums .evening + x .evening ≤ top = omega (arith, g .evening .small, k 1) in
+          let n : sums .night + x .night ≤ top = omega (arith, g .night .small, k 2) in
           rw (le-leb _ _ d, le-leb _ _ e, le-leb _ _ n)
 
-      pub gather-barred : (s : Source) (b : Bar) → getD l i none ≡ some s → pairOf s r ≡ Bars b → firstBar pairAt 0 l ≡ some (barAt i b)
+      pub gather-barred : (s : Source) (b : Bar) → getD l i none ≡ some s → pair s r ≡ Bars b → firstBar pairAt 0 l ≡ some (barAt i b)
       unfolding firstBar
       gather-barred s b e t = g .stop ∙ ap (firstBar pairAt i) (rest-is (some s) e) ∙ ap (λ (q : Pair). orBar i q (firstBar pairAt (suc i) (drop (i + 1) l))) t
 
   pub gather-over : (l : List (Option Source)) (sums : Account) (i : ℕ) → length l ≤ i → i ≤ sourceCount → Gathers l sums i
-      → Gathering r l (record { stop = Nowhere; sums = sums })
+      → Gathering pair r l (record { stop = Nowhere; sums = sums })
   unfolding firstBar
   gather-over l sums i h b g =
       let d : drop i l ≡ [] = drop-of-length-le l {i = i} h in
@@ -122,7 +120,7 @@ module _ (r : Receiver) where
         sound = λ z. rw (le-leb (sums .day) top (omega (arith, g .day .small)), le-leb (sums .evening) top (omega (arith, g .evening .small)), le-leb (sums .night) top (omega (arith, g .night .small)));
       }
 
-  pub gather-stopped : (l : List (Option Source)) (g : Gathered) (why : Refusal) → g .stop ≡ At why → firstBar pairAt 0 l ≡ some why → Gathering r l g
+  pub gather-stopped : (l : List (Option Source)) (g : Gathered) (why : Refusal) → g .stop ≡ At why → firstBar pairAt 0 l ≡ some why → Gathering pair r l g
   gather-stopped l g why e f = record {
     stop = e ∙ ap stopOf (sym f);
     sums = λ z. absurd (nothing-is why (sym f ∙ z));

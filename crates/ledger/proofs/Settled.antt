@@ -30,7 +30,7 @@ go-round-stop-settled l a x y p q = p .stop ∙ sym (q .stop)
 
 go-round-settled : Settles (λ l a r e. r) (λ l a r e. proofs.round.go_round.Reads.Post l a r e × (r .stop ≡ Nowhere) × (r .late ≡ false))
 go-round-settled l a x y p q =
-    let free = sym (p .0 .stop) ∙ p .1 in
+    let free = stop-none _ (sym (p .0 .stop) ∙ p .1) in
     let e = p .0 .stop ∙ sym (q .0 .stop) in
     let f = p .2 ∙ sym (q .2) in
     let g = p .0 .seats free (p .2) ∙ sym (q .0 .seats free (q .2)) in

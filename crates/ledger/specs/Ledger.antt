@@ -1,6 +1,6 @@
 -- What becomes of a receiver on a source's round, the seats as they would be, and what the sources bring to a receiver.
 -- The book's calls are told without these values: a reader of the promises can pass over this file.
-use Prim.Native.Nat.{ℕ, suc}
+use Prim.Native.Nat.{ℕ}
 use mathlib.Core.Path.{_≡_}
 use mathlib.Core.Bool.{Bool, true, false, cond, not}
 use mathlib.Core.Option.{Option, none, some}
@@ -13,6 +13,7 @@ use Rattle.road.specs.declared.Pair.{Pair}
 use Rattle.road.specs.declared.Pair.the-variants.{Heard}
 use Rattle.road.specs.declared.Pair.the-variants.{Barred as Bars}
 use Rattle.road.specs.Reach.{pairOf}
+use Rattle.road.specs.Pairs.{Pairing}
 use Rattle.store.specs.declared.Account.{Account}
 use Rattle.store.specs.declared.Held.{Held}
 use Rattle.store.specs.declared.Seat.{Seat}
@@ -26,7 +27,8 @@ use Rattle.ledger.specs.declared.round.Round.{Round}
 use Rattle.ledger.specs.declared.gather.Offer.{Offer}
 use Rattle.ledger.specs.declared.gather.Offer.the-variants.{Free as Nobody, Heard as Brings, Barred as Stops}
 use Rattle.ledger.specs.declared.gather.Gathered.{Gathered}
-use Rattle.ledger.specs.Lists.{omap, present, every, barAt, firstBar, weigh}
+use Rattle.ledger.specs.Lists.{omap, present, every, firstBar, weigh}
+use Rattle.ledger.specs.Changes.{Change, follow, barOf}
 
 -- ---- one receiver
 
@@ -38,31 +40,14 @@ abbrev pub loweredBy : Pair → Account → Turn
 loweredBy (Heard h) a = cond (covers a h) (Moved (minusOf a h)) Late
 loweredBy (Bars b) a = Late
 
-unfoldable pub turnOf : Bool → Source → Held → Turn
-turnOf adding s x = cond adding (raisedBy (pairOf s (x .who)) (x .sums)) (loweredBy (pairOf s (x .who)) (x .sums))
+abbrev pub unlessBars : Pair → Turn → Turn
+unlessBars (Heard h) t = t
+unlessBars (Bars b) t = Barred b
 
--- ---- the round, for any turn
+unfoldable pub turnOf : Change → Held → Turn
+turnOf c x = unlessBars (c .tried (x .who)) (cond (c .fits x) (Moved (c .sums x)) Late)
 
-abbrev pub orStop : ℕ → Turn → Stop → Stop
-orStop j (Moved a) k = k
-orStop j (Barred b) k = At (barAt j b)
-orStop j Late k = k
-
--- where it stops: at the first receiver that is barred
-unfoldable pub stopAt : (Held → Turn) → ℕ → List (Option Held) → Stop
-stopAt turn j [] = Nowhere
-stopAt turn j (none ∷ l) = stopAt turn (suc j) l
-stopAt turn j (some x ∷ l) = orStop j (turn x) (stopAt turn (suc j) l)
-
-abbrev pub inTime : Turn → Bool
-inTime (Moved a) = true
-inTime (Barred b) = true
-inTime Late = false
-
-abbrev pub movedTo : Held → Turn → Held
-movedTo x (Moved a) = record { who = x .who; sums = a }
-movedTo x (Barred b) = x
-movedTo x Late = x
+-- ---- the round
 
 abbrev pub vacant : Seat
 vacant = record { used = false; held = record { who = record { x = 0; y = 0; height = 0 }; sums = nothing } }
@@ -71,17 +56,15 @@ abbrev pub toSeat : Option Held → Seat
 toSeat none = vacant
 toSeat (some x) = record { used = true; held = x }
 
-abbrev pub movedBy : (Held → Turn) → Option Held → Option Held
-movedBy turn o = omap (λ (x : Held). movedTo x (turn x)) o
+abbrev pub stopOf : Option Refusal → Stop
+stopOf none = Nowhere
+stopOf (some r) = At r
 
--- what a round tells of the receivers
-pub record RoundedBy (turn : Held → Turn) (l : List (Option Held)) (r : Round) : Type 0 where
-  pub stop : r .stop ≡ stopAt turn 0 l
-  pub late : stopAt turn 0 l ≡ Nowhere → r .late ≡ not (every (λ (x : Held). inTime (turn x)) (present l))
-  pub seats : stopAt turn 0 l ≡ Nowhere → r .late ≡ false → r .seats ≡ map toSeat (map (movedBy turn) l)
-
-abbrev pub Rounded : Bool → Source → List (Option Held) → Round → Type 0
-Rounded adding s l r = RoundedBy (turnOf adding s) l r
+-- what a round tells of a change: the first bar; if there is none, whether a receiver cannot follow; if all can, the seats after it
+pub record Rounded (c : Change) (l : List (Option Held)) (r : Round) : Type 0 where
+  pub stop : r .stop ≡ stopOf (barOf c l)
+  pub late : barOf c l ≡ none → r .late ≡ not (every (c .fits) (present l))
+  pub seats : barOf c l ≡ none → r .late ≡ false → r .seats ≡ map toSeat (map (omap (follow c)) l)
 
 -- ---- seats written over receivers
 
@@ -115,11 +98,7 @@ abbrev pub offerOf : Receiver → Option Source → Offer
 offerOf r none = Nobody
 offerOf r (some s) = offerBy (pairOf s r)
 
-abbrev pub stopOf : Option Refusal → Stop
-stopOf none = Nowhere
-stopOf (some r) = At r
-
-pub record Gathering (r : Receiver) (l : List (Option Source)) (g : Gathered) : Type 0 where
-  pub stop : g .stop ≡ stopOf (firstBar (λ (s : Source). pairOf s r) 0 l)
-  pub sums : firstBar (λ (s : Source). pairOf s r) 0 l ≡ none → g .sums ≡ weigh (present l) r .sums
-  pub sound : firstBar (λ (s : Source). pairOf s r) 0 l ≡ none → soundB (g .sums) ≡ true
+pub record Gathering (pair : Pairing) (r : Receiver) (l : List (Option Source)) (g : Gathered) : Type 0 where
+  pub stop : g .stop ≡ stopOf (firstBar (λ (s : Source). pair s r) 0 l)
+  pub sums : firstBar (λ (s : Source). pair s r) 0 l ≡ none → g .sums ≡ weigh pair (present l) r .sums
+  pub sound : firstBar (λ (s : Source). pair s r) 0 l ≡ none → soundB (g .sums) ≡ true

@@ -12,7 +12,7 @@ use Rattle.road.specs.declared.Bar.{Bar}
 use Rattle.road.specs.declared.Bar.the-variants.{Near, Far, Long, Loud}
 use Rattle.road.specs.declared.Pair.{Pair}
 use Rattle.road.specs.declared.Pair.the-variants.{Heard, Barred}
-use Rattle.road.specs.Reach.{shareOf}
+use Rattle.road.specs.Pairs.{Pairing, shareIn}
 use Rattle.store.specs.declared.Held.{Held}
 
 -- ---- lists of slots
@@ -63,9 +63,9 @@ module _ {A : Type 0} where
 
 -- ---- accounts
 
--- a receiver's account, worked out afresh: three sums over the sources
-abbrev pub weigh : List Source → Receiver → Held
-weigh ss r = record {
+-- a receiver's account, worked out afresh: three sums over the sources, of the shares that each brings
+abbrev pub weigh : Pairing → List Source → Receiver → Held
+weigh pair ss r = record {
   who = r;
-  sums = record { day = sumOf (λ s. shareOf s r 0) ss; evening = sumOf (λ s. shareOf s r 1) ss; night = sumOf (λ s. shareOf s r 2) ss };
+  sums = record { day = sumOf (λ s. shareIn (pair s r) 0) ss; evening = sumOf (λ s. shareIn (pair s r) 1) ss; night = sumOf (λ s. shareIn (pair s r) 2) ss };
 }

@@ -15,6 +15,7 @@ ghost use Prim.Native.Nat.{_<_};
 ghost use lib.ListN.{getD};
 ghost use Rattle.level.specs.Table.{table};
 ghost use Rattle.road.specs.declared.Verdict.the-variants.{Allowed};
+ghost use Rattle.road.specs.Reach.{pairOf};
 ghost use Rattle.road.specs.Judge.{receiverVerdict};
 ghost use Rattle.store.specs.Store.{sourceCount, damaged, bookOf};
 ghost use Rattle.ledger.specs.Ledger.{offerOf, Gathering};
@@ -41,8 +42,8 @@ fn hear_source(steps: &[u32; 1000], store: &[u8], i: usize, r: Receiver) -> Offe
         return Offer::Free;
     }
     let s = store::sources::lane(store, i).source;
-    let voices = road::emission::voices(steps, s);
-    match reach::pair(steps, s, voices, r) {
+    let sent = road::emission::send(steps, s);
+    match reach::pair(steps, s, sent, r) {
         Pair::Heard(shares) => Offer::Heard(shares),
         Pair::Barred(bar) => Offer::Barred(bar),
     }
@@ -51,7 +52,7 @@ fn hear_source(steps: &[u32; 1000], store: &[u8], i: usize, r: Receiver) -> Offe
 // What all standing sources bring to a receiver, from the lowest slot on.
 pub fn gather(steps: &[u32; 1000], store: &[u8], r: Receiver) -> Gathered
     requires { ⌜ (now steps ≡ table) × (damaged (now store) ≡ false) × (receiverVerdict r ≡ Allowed) ⌝ }
-    ensures { λ g. ⌜ Gathering r (bookOf (now (store .entry)) .sources) g ⌝ }
+    ensures { λ g. ⌜ Gathering pairOf r (bookOf (now (store .entry)) .sources) g ⌝ }
 {
     let mut sums = Account {
         day: 0,

@@ -5,7 +5,7 @@ use road::Bar;
 use road::Pair;
 use road::Receiver;
 use road::Source;
-use road::Voice;
+use road::Sent;
 use store::Account;
 use store::Held;
 use store::Seat;
@@ -15,9 +15,10 @@ ghost use Prim.Native.Nat.{_<_};
 ghost use Rattle.level.specs.Table.{table};
 ghost use Rattle.road.specs.declared.Verdict.the-variants.{Allowed};
 ghost use Rattle.road.specs.Judge.{sourceVerdict, receiverVerdict};
-ghost use Rattle.road.specs.Inner.{voicesOf};
+ghost use Rattle.road.specs.Inner.{sentOf};
 ghost use Rattle.store.specs.Store.{receiverCount, damaged, bookOf, bookBytes, book, HeldStands};
 ghost use Rattle.ledger.specs.Lists.{barAt};
+ghost use Rattle.ledger.specs.Changes.{changeBy};
 ghost use Rattle.ledger.specs.Ledger.{raisedBy, loweredBy, turnOf, vacant, Rounded, settled, seated, StandingSeats};
 
 // What becomes of a receiver's account when a source comes or goes.
@@ -85,13 +86,13 @@ fn lowered(sums: Account, p: Pair) -> Turn
 }
 
 // What becomes of a receiver.
-fn meet(steps: &[u32; 1000], x: Held, s: Source, voices: [Voice; 3], adding: bool) -> Turn
-    requires { ⌜ (now steps ≡ table) × (sourceVerdict s ≡ Allowed) × (voices ≡ voicesOf s) × (receiverVerdict (x .who) ≡ Allowed) ⌝ }
-    ensures { λ r. ⌜ r ≡ turnOf adding s x ⌝ }
+fn meet(steps: &[u32; 1000], x: Held, s: Source, sent: Sent, adding: bool) -> Turn
+    requires { ⌜ (now steps ≡ table) × (sourceVerdict s ≡ Allowed) × (sent ≡ sentOf s) × (receiverVerdict (x .who) ≡ Allowed) ⌝ }
+    ensures { λ r. ⌜ r ≡ turnOf (changeBy adding s) x ⌝ }
 {
     let who = x.who;
     let sums = x.sums;
-    let p = reach::pair(steps, s, voices, who);
+    let p = reach::pair(steps, s, sent, who);
     if adding {
         return raised(sums, p);
     }
@@ -124,11 +125,11 @@ pub fn go_round(
     steps: &[u32; 1000],
     store: &[u8],
     s: Source,
-    voices: [Voice; 3],
+    sent: Sent,
     adding: bool,
 ) -> Round
-    requires { ⌜ (now steps ≡ table) × (damaged (now store) ≡ false) × (sourceVerdict s ≡ Allowed) × (voices ≡ voicesOf s) ⌝ }
-    ensures { λ r. ⌜ Rounded adding s (bookOf (now (store .entry)) .receivers) r ⌝ }
+    requires { ⌜ (now steps ≡ table) × (damaged (now store) ≡ false) × (sourceVerdict s ≡ Allowed) × (sent ≡ sentOf s) ⌝ }
+    ensures { λ r. ⌜ Rounded (changeBy adding s) (bookOf (now (store .entry)) .receivers) r ⌝ }
 {
     let empty = vacant();
     let mut seats = [empty; store::RECEIVERS];
@@ -138,7 +139,7 @@ pub fn go_round(
         let seat = store::receivers::seat(store, j);
         let x = seat.held;
         if seat.used {
-            match meet(steps, x, s, voices, adding) {
+            match meet(steps, x, s, sent, adding) {
                 Turn::Moved(sums) => {
                     let who = x.who;
                     let held = Held { who, sums };

@@ -15,6 +15,7 @@ use Rattle.road.specs.declared.Pair.{Pair}
 use Rattle.road.specs.declared.Pair.the-variants.{Heard}
 use Rattle.road.specs.declared.Pair.the-variants.{Barred as Bars}
 use Rattle.road.specs.Reach.{pairOf}
+use Rattle.road.proofs.Pairs.{pair-bounded}
 use Rattle.store.specs.declared.Account.{Account}
 use Rattle.store.specs.Account.{plusOf}
 use Rattle.store.specs.Store.{sourceCount, bookOf}
@@ -53,13 +54,13 @@ stops r (some s) b e = go (pairOf s r) refl e
     go (Bars d) q f = (s, refl, q ∙ (let w : Stops d ≡ Stops b = sym (ap offerBy q) ∙ f in let k : d ≡ b = cc in ap Bars k))
 
 abbrev Inv-loop : tie.InvT-loop
-Inv-loop steps store r sums₀ i₀ sums i = (i ≤ sourceCount) × Gathers r (bookOf store .sources) sums i
+Inv-loop steps store r sums₀ i₀ sums i = (i ≤ sourceCount) × Gathers pairOf pair-bounded r (bookOf store .sources) sums i
 
 abbrev μ-loop : tie.MeasureT-loop
 μ-loop steps store r sums₀ i₀ sums i = sourceCount - i
 
 loop-holds : tie.Need-loop-holds Inv-loop μ-loop
-loop-holds c = (omega arith, gather-begun (c .before .args .r) (bookOf (c .before .args .store .now) .sources))
+loop-holds c = (omega arith, gather-begun pairOf pair-bounded (c .before .args .r) (bookOf (c .before .args .store .now) .sources))
 
 hear-source-requires : tie.Need-hear-source-requires Inv-loop μ-loop
 hear-source-requires c κs = let start = c .before .before .before in (start .pre .0, start .pre .1, c .loop-test .taken, start .pre .2)
@@ -85,7 +86,7 @@ loop-again c =
     let lp = h .before .before in
     let start = lp .before .before in
     let e = nobody (start .args .r) (getD (bookOf (start .args .store .now) .sources) (lp .loop .i) none) (sym (h .hear-source .ensures) ∙ c .enum-told .given .1) in
-    (omega arith, gather-free (start .args .r) (bookOf (start .args .store .now) .sources) (lp .loop .i) (within h) (lp .loop .sums) (lp .loop .inv .1) e)
+    (omega arith, gather-free pairOf pair-bounded (start .args .r) (bookOf (start .args .store .now) .sources) (lp .loop .i) (within h) (lp .loop .sums) (lp .loop .inv .1) e)
 
 enum-known-shares : tie.Need-enum-known-shares Inv-loop μ-loop
 enum-known-shares c = search needs
@@ -96,7 +97,7 @@ plus-requires c κs =
     let lp = h .before .before in
     let start = lp .before .before in
     let e = brings (start .args .r) (getD (bookOf (start .args .store .now) .sources) (lp .loop .i) none) _ (sym (h .hear-source .ensures) ∙ c .before .shares .given .1) in
-    gather-room (start .args .r) (bookOf (start .args .store .now) .sources) (lp .loop .i) (within h) (lp .loop .sums) (lp .loop .inv .1) (e .0) _ (h .before .loop-test .taken) (e .2)
+    gather-room pairOf pair-bounded (start .args .r) (bookOf (start .args .store .now) .sources) (lp .loop .i) (within h) (lp .loop .sums) (lp .loop .inv .1) (e .0) _ (h .before .loop-test .taken) (e .2)
 
 add-i-2 : tie.Need-add-i-2 Inv-loop μ-loop
 add-i-2 c = omega arith
@@ -110,7 +111,7 @@ loop-again-2 c =
     let lp = h .before .before in
     let start = lp .before .before in
     let e = brings (start .args .r) (getD (bookOf (start .args .store .now) .sources) (lp .loop .i) none) _ (sym (h .hear-source .ensures) ∙ c .before .before .shares .given .1) in
-    (omega arith, rw (c .plus .ensures) (gather-heard (start .args .r) (bookOf (start .args .store .now) .sources) (lp .loop .i) (within h) (lp .loop .sums) (lp .loop .inv .1) (e .0) _ (e .1) (e .2)))
+    (omega arith, rw (c .plus .ensures) (gather-heard pairOf pair-bounded (start .args .r) (bookOf (start .args .store .now) .sources) (lp .loop .i) (within h) (lp .loop .sums) (lp .loop .inv .1) (e .0) _ (e .1) (e .2)))
 
 enum-known-bar : tie.Need-enum-known-bar Inv-loop μ-loop
 enum-known-bar c = search needs
@@ -127,13 +128,13 @@ returns c =
     let lp = h .before .before in
     let start = lp .before .before in
     let e = stops (start .args .r) (getD (bookOf (start .args .store .now) .sources) (lp .loop .i) none) _ (sym (h .hear-source .ensures) ∙ c .before .before .bar .given .1) in
-    gather-stopped (start .args .r) (bookOf (start .args .store .now) .sources) _ _ (ap At (c .bar-at .ensures))
-    (gather-barred (start .args .r) (bookOf (start .args .store .now) .sources) (lp .loop .i) (within h) (lp .loop .sums) (lp .loop .inv .1) (e .0) _ (e .1) (e .2))
+    gather-stopped pairOf pair-bounded (start .args .r) (bookOf (start .args .store .now) .sources) _ _ (ap At (c .bar-at .ensures))
+    (gather-barred pairOf pair-bounded (start .args .r) (bookOf (start .args .store .now) .sources) (lp .loop .i) (within h) (lp .loop .sums) (lp .loop .inv .1) (e .0) _ (e .1) (e .2))
 
 returns-2 : tie.Need-returns-2 Inv-loop μ-loop
 returns-2 c =
     let start = c .before .before .before in
-    gather-over (start .args .r) (bookOf (start .args .store .now) .sources) (c .before .loop .sums) (c .before .loop .i) (omega (arith, sound-book (start .args .store .now) (start .pre .1) .lanes, c .loop-test .left)) (c .before .loop .inv .0) (c .before .loop .inv .1)
+    gather-over pairOf pair-bounded (start .args .r) (bookOf (start .args .store .now) .sources) (c .before .loop .sums) (c .before .loop .i) (omega (arith, sound-book (start .args .store .now) (start .pre .1) .lanes, c .loop-test .left)) (c .before .loop .inv .0) (c .before .loop .inv .1)
 
 pub gather-spec : {M : Type 1} → statement M
 gather-spec = tie.close (tie.spec Inv-loop μ-loop loop-holds hear-source-requires enum-told add-i loop-less loop-again enum-known-shares plus-requires add-i-2 loop-less-2 loop-again-2 enum-known-bar cast-bar-at bar-at-requires returns returns-2)

@@ -40,14 +40,14 @@ stands c =
     let start = c .before .before .before .before in
     lane-stands (start .args .store .now) (start .args .i) (start .pre .1) (start .pre .2) (c .lane .result) (c .lane .ensures) (in-use c)
 
-voices-requires : tie.Need-voices-requires
-voices-requires c κs = let t = c .before in (t .before .before .before .before .pre .0, stands t .0)
+send-requires : tie.Need-send-requires
+send-requires c κs = let t = c .before in (t .before .before .before .before .pre .0, stands t .0)
 
 pair-requires : tie.Need-pair-requires
 pair-requires c κs =
     let t = c .before .before in
     let start = t .before .before .before .before in
-    (start .pre .0, stands t .0, c .voices .ensures, start .pre .3)
+    (start .pre .0, stands t .0, c .send .ensures, start .pre .3)
 
 enum-known-shares : tie.Need-enum-known-shares
 enum-known-shares c = search needs
@@ -71,4 +71,4 @@ returns-3 : tie.Need-returns-3
 returns-3 c = offered (c .before .before .before) _ (c .before .bar .given .1)
 
 pub hear-source-spec : {M : Type 1} → statement M
-hear-source-spec = tie.close (tie.spec marked-requires returns lane-requires voices-requires pair-requires enum-known-shares enum-known-bar returns-2 returns-3)
+hear-source-spec = tie.close (tie.spec marked-requires returns lane-requires send-requires pair-requires enum-known-shares enum-known-bar returns-2 returns-3)

@@ -11,17 +11,17 @@ use Rattle.store.specs.declared.Held.{Held}
 use Rattle.store.specs.Store.{receiverCount, bookOf}
 use Rattle.store.proofs.Laws.{undamaged, sound-book}
 use Rattle.ledger.specs.declared.round.Stop.the-variants.{At}
-use Rattle.ledger.specs.Ledger.{turnOf}
+use Rattle.ledger.specs.Changes.{changeBy}
 use Rattle.ledger.proofs.Entries.{seat-free, seat-used, seat-stands}
 use Rattle.ledger.proofs.Rounds.{Rounding, round-begun, round-free, round-moved, round-late, round-barred, round-over, round-stopped}
 use Rattle.ledger.proofs.round.go_round.Statement.{statement}
 use Rattle.ledger.proofs.round.go_round.Tie as tie
 
 abbrev Inv-loop : tie.InvT-loop
-Inv-loop steps store s voices adding seats₀ late₀ j₀ seats late j = (j ≤ receiverCount) × Rounding (turnOf adding s) (bookOf store .receivers) late seats j
+Inv-loop steps store s sent adding seats₀ late₀ j₀ seats late j = (j ≤ receiverCount) × Rounding (changeBy adding s) (bookOf store .receivers) late seats j
 
 abbrev μ-loop : tie.MeasureT-loop
-μ-loop steps store s voices adding seats₀ late₀ j₀ seats late j = receiverCount - j
+μ-loop steps store s sent adding seats₀ late₀ j₀ seats late j = receiverCount - j
 
 vacant-requires : tie.Need-vacant-requires Inv-loop μ-loop
 vacant-requires c κs = search needs
@@ -29,7 +29,7 @@ vacant-requires c κs = search needs
 loop-holds : tie.Need-loop-holds Inv-loop μ-loop
 loop-holds c =
     let a = c .before .before .args in
-    (omega arith, rw (c .vacant .ensures) (round-begun (turnOf (a .adding) (a .s)) (bookOf (a .store .now) .receivers)))
+    (omega arith, rw (c .vacant .ensures) (round-begun (changeBy (a .adding) (a .s)) (bookOf (a .store .now) .receivers)))
 
 seat-requires : tie.Need-seat-requires Inv-loop μ-loop
 seat-requires c κs =
@@ -76,7 +76,7 @@ loop-again c =
     let l = bookOf (a .store .now) .receivers in
     let s = a .store .now in
     let used = seat-used s (lp .loop .j) (start .pre .1) (inside t) (t .seat .result) (t .seat .ensures) (c .before .before .before .before .before .if1 .taken) in
-    (omega arith, round-moved (turnOf (a .adding) (a .s)) l (lp .loop .late) (lp .loop .seats) (lp .loop .j) (within t) (inside t) (lp .loop .inv .1) (t .seat .result .held) _ used (sym (c .before .before .before .before .meet .ensures) ∙ c .before .before .sums .given .1))
+    (omega arith, round-moved (changeBy (a .adding) (a .s)) l (lp .loop .late) (lp .loop .seats) (lp .loop .j) (within t) (inside t) (lp .loop .inv .1) (t .seat .result .held) _ used (sym (c .before .before .before .before .meet .ensures) ∙ c .before .before .sums .given .1))
 
 enum-told : tie.Need-enum-told Inv-loop μ-loop
 enum-told c = search needs
@@ -96,7 +96,7 @@ loop-again-2 c =
     let l = bookOf (a .store .now) .receivers in
     let s = a .store .now in
     let used = seat-used s (lp .loop .j) (start .pre .1) (inside t) (t .seat .result) (t .seat .ensures) (c .before .before .before .if1 .taken) in
-    (omega arith, round-late (turnOf (a .adding) (a .s)) l (lp .loop .late) (lp .loop .seats) (lp .loop .j) (within t) (inside t) (lp .loop .inv .1) (t .seat .result .held) used (sym (c .before .before .meet .ensures) ∙ c .enum-told .given .1))
+    (omega arith, round-late (changeBy (a .adding) (a .s)) l (lp .loop .late) (lp .loop .seats) (lp .loop .j) (within t) (inside t) (lp .loop .inv .1) (t .seat .result .held) used (sym (c .before .before .meet .ensures) ∙ c .enum-told .given .1))
 
 enum-known-bar : tie.Need-enum-known-bar Inv-loop μ-loop
 enum-known-bar c = search needs
@@ -116,8 +116,8 @@ returns c =
     let l = bookOf (a .store .now) .receivers in
     let s = a .store .now in
     let used = seat-used s (lp .loop .j) (start .pre .1) (inside t) (t .seat .result) (t .seat .ensures) (c .before .before .before .before .before .if1 .taken) in
-    round-stopped (turnOf (a .adding) (a .s)) l _ _ (ap At (c .bar-at .ensures))
-    (round-barred (turnOf (a .adding) (a .s)) l (lp .loop .late) (lp .loop .seats) (lp .loop .j) (within t) (inside t) (lp .loop .inv .1) (t .seat .result .held) _ used (sym (c .before .before .before .before .meet .ensures) ∙ c .before .before .bar .given .1))
+    round-stopped (changeBy (a .adding) (a .s)) l _ _ (ap At (c .bar-at .ensures))
+    (round-barred (changeBy (a .adding) (a .s)) l (lp .loop .late) (lp .loop .seats) (lp .loop .j) (within t) (inside t) (lp .loop .inv .1) (t .seat .result .held) _ used (sym (c .before .before .before .before .meet .ensures) ∙ c .before .before .bar .given .1))
 
 add-j-3 : tie.Need-add-j-3 Inv-loop μ-loop
 add-j-3 c = omega arith
@@ -134,13 +134,13 @@ loop-again-3 c =
     let l = bookOf (a .store .now) .receivers in
     let s = a .store .now in
     let free = seat-free s (lp .loop .j) (start .pre .1) (inside t) (t .seat .result) (t .seat .ensures) (c .if1 .left) in
-    (omega arith, round-free (turnOf (a .adding) (a .s)) l (lp .loop .late) (lp .loop .seats) (lp .loop .j) (within t) (inside t) (lp .loop .inv .1) free)
+    (omega arith, round-free (changeBy (a .adding) (a .s)) l (lp .loop .late) (lp .loop .seats) (lp .loop .j) (within t) (inside t) (lp .loop .inv .1) free)
 
 returns-2 : tie.Need-returns-2 Inv-loop μ-loop
 returns-2 c =
     let start = c .before .before .before .before in
     let a = start .args in
-    round-over (turnOf (a .adding) (a .s)) (bookOf (a .store .now) .receivers) (c .before .loop .late) (c .before .loop .seats) (c .before .loop .j)
+    round-over (changeBy (a .adding) (a .s)) (bookOf (a .store .now) .receivers) (c .before .loop .late) (c .before .loop .seats) (c .before .loop .j)
     (sound-book (a .store .now) (start .pre .1) .seats) (omega (arith, c .loop-test .left)) (c .before .loop .inv .1)
 
 pub go-round-spec : {M : Type 1} → statement M
