@@ -4,8 +4,8 @@ use answer::Refusal;
 use road::Bar;
 use road::Pair;
 use road::Receiver;
-use road::Source;
 use road::Sent;
+use road::Source;
 use store::Account;
 use store::Held;
 use store::Seat;
@@ -121,13 +121,7 @@ fn vacant() -> Seat
 }
 
 // The first pass, from the lowest slot on.
-pub fn go_round(
-    steps: &[u32; 1000],
-    store: &[u8],
-    s: Source,
-    sent: Sent,
-    adding: bool,
-) -> Round
+pub fn go_round(steps: &[u32; 1000], store: &[u8], s: Source, sent: Sent, adding: bool) -> Round
     requires { ⌜ (now steps ≡ table) × (damaged (now store) ≡ false) × (sourceVerdict s ≡ Allowed) × (sent ≡ sentOf s) ⌝ }
     ensures { λ r. ⌜ Rounded (changeBy adding s) (bookOf (now (store .entry)) .receivers) r ⌝ }
 {

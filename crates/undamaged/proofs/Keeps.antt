@@ -11,7 +11,8 @@ use Rattle.road.specs.declared.Source.{Source}
 use Rattle.road.specs.declared.Receiver.{Receiver}
 use Rattle.road.specs.declared.Verdict.{Verdict}
 use Rattle.road.specs.declared.Verdict.the-variants.{Allowed, Refused as Barring}
-use Rattle.road.specs.Reach.{sharesOf, pairOf}
+use Rattle.road.specs.Reach.{pairOf}
+use Rattle.road.proofs.Pairs.{pair-bounded}
 use Rattle.road.specs.Judge.{sourceVerdict, receiverVerdict, slotVerdict}
 use Rattle.store.specs.declared.Held.{Held}
 use Rattle.store.specs.Slots.{Each}
@@ -19,12 +20,13 @@ use Rattle.store.specs.Store.{lastSource, lastReceiver, Book, book, damaged, bo
 use Rattle.store.proofs.Laws.{many-sources, sound-book, book-bytes, sound-source, sound-held}
 use Rattle.undamaged.specs.declared.Answer.{Answer}
 use Rattle.ledger.specs.Lists.{omap, present, every, firstBar, weigh}
+use Rattle.ledger.specs.Changes.{Change, follow, barOf, coming, going}
 use Rattle.undamaged.specs.Calls.{Step, refuse, tell, change, allow, intoFree, fromUsed, unlessBarred, unlessLate}
-use Rattle.undamaged.specs.Calls.{more, less, hasRoom, canReturn, placeSource, withdrawSource, placeReceiver, withdrawReceiver, askReceiver, told}
+use Rattle.undamaged.specs.Calls.{changeSource, placeSource, withdrawSource, placeReceiver, withdrawReceiver, askReceiver, told}
 use Rattle.road.proofs.Judged.{slot-allowed}
 use Rattle.ledger.proofs.Rounds.{and-both}
-use Rattle.undamaged.proofs.Rounded.{less-sound}
-use Rattle.undamaged.proofs.Sums.{never, bars-pass, weigh-sound}
+use Rattle.undamaged.proofs.Rounded.{KeepsSound, coming-sound, going-sound}
+use Rattle.undamaged.proofs.Sums.{never, weigh-sound}
 
 -- ---- a book that a store can hold, or no change
 
@@ -75,15 +77,20 @@ moved-sound b f p h e k = record {
 -- ---- the calls
 
 module _ (b : Book) (h : SoundBook b) where
+  -- a change after which slot i holds o
+  changed : (c : Change) → KeepsSound c → (i : ℕ) (o : Option Source) → ((a : Source) → o ≡ some a → SourceStands a) → Keep (changeSource c i o b)
+  changed c k i o f =
+      keep-unbarred (barOf c (b .receivers)) _ λ w.
+      keep-intime (every (c .fits) (present (b .receivers))) _ λ t.
+      sound-source (book (b .sources) (map (omap (follow c)) (b .receivers))) i o
+      (moved-sound b (follow c) (c .fits) h t (λ x st r. (st .0, k x (st .1) r))) f
+
   pub source-in : (i : ℕ) (s : Source) → length (s .traffic) ≡ 3 → Keep (placeSource i s b)
   unfolding placeSource
   source-in i s n =
       keep-allowed (slotVerdict lastSource i (sourceVerdict s)) _ λ v.
       keep-free (getD (b .sources) i none) _ λ w.
-      keep-unbarred (firstBar (λ (x : Held). pairOf s (x .who)) 0 (b .receivers)) _ λ o.
-      keep-intime (every (hasRoom s) (present (b .receivers))) _ λ t.
-      sound-source (book (b .sources) (map (omap (more s)) (b .receivers))) i (some s)
-      (moved-sound b (more s) (hasRoom s) h t (λ x st r. (st .0, r)))
+      changed (coming pairOf s) (coming-sound pairOf s) i (some s)
       (λ (a : Source) e. (let same : s ≡ a = cc in subst SourceStands same (slot-allowed lastSource i (sourceVerdict s) v .1, n)))
 
   pub source-out : (i : ℕ) → Keep (withdrawSource i b)
@@ -91,10 +98,7 @@ module _ (b : Book) (h : SoundBook b) where
   source-out i =
       keep-allowed (slotVerdict lastSource i Allowed) _ λ v.
       keep-used (getD (b .sources) i none) _ λ s.
-      keep-intime (every (canReturn s) (present (b .receivers))) _ λ t.
-      sound-source (book (b .sources) (map (omap (less s)) (b .receivers))) i none
-      (moved-sound b (less s) (canReturn s) h t (λ x st r. (st .0, less-sound (x .sums) (sharesOf s (x .who)) (st .1))))
-      (λ (a : Source) e. never cc)
+      changed (going pairOf s) (going-sound pairOf s) i none (λ (a : Source) e. never cc)
 
   pub receiver-in : (j : ℕ) (r : Receiver) → Keep (placeReceiver j r b)
   unfolding placeReceiver
@@ -102,12 +106,12 @@ module _ (b : Book) (h : SoundBook b) where
       keep-allowed (slotVerdict lastReceiver j (receiverVerdict r)) _ λ v.
       keep-free (getD (b .receivers) j none) _ λ w.
       keep-unbarred (firstBar (λ (s : Source). pairOf s r) 0 (b .sources)) _ λ o.
-      sound-held b j (some (weigh (present (b .sources)) r)) h
+      sound-held b j (some (weigh pairOf (present (b .sources)) r)) h
       (λ (a : Held) e. (
-      let same : weigh (present (b .sources)) r ≡ a = cc in
+      let same : weigh pairOf (present (b .sources)) r ≡ a = cc in
       subst HeldStands same (
         slot-allowed lastReceiver j (receiverVerdict r) v .1,
-        weigh-sound (b .sources) r (h .lanes ∙ sym many-sources) (bars-pass (λ (s : Source). pairOf s r) 0 (b .sources) o),
+        weigh-sound pairOf pair-bounded (b .sources) r (h .lanes ∙ sym many-sources),
       )
       ))
 

@@ -1,4 +1,4 @@
--- What the first pass of a source's round tells of a source that comes or goes: bars, room, and the seats to write.
+-- What the first pass of a round tells of a change: its bar, whether all receivers can follow, and the seats to write.
 -- Assumes nothing.
 use mathlib.Core.Path.{_≡_, refl, sym, ap, ap₂, _∙_, subst}
 use mathlib.Core.Bool.{Bool, true, false, not, _&&_}
@@ -12,7 +12,8 @@ use borrow.Author.Tests.{le-leb}
 use Rattle.answer.specs.declared.Refusal.{Refusal}
 use Rattle.road.specs.declared.Source.{Source}
 use Rattle.road.specs.declared.Shares.{Shares}
-use Rattle.road.specs.Reach.{sharesOf, pairOf}
+use Rattle.road.specs.Reach.{pairOf}
+use Rattle.road.specs.Pairs.{Pairing, brought}
 use Rattle.store.specs.declared.Account.{Account}
 use Rattle.store.specs.declared.Held.{Held}
 use Rattle.store.specs.declared.Seat.{Seat}
@@ -22,12 +23,11 @@ use Rattle.store.specs.Store.{receiverCount, Book, HeldStands, SoundBook}
 use Rattle.store.proofs.Accounts.{sound-le}
 use Rattle.ledger.specs.declared.round.Stop.the-variants.{Nowhere, At}
 use Rattle.ledger.specs.declared.round.Round.{Round}
-use Rattle.ledger.specs.Lists.{omap, present, every, firstBar}
-use Rattle.undamaged.specs.Calls.{more, less, hasRoom, canReturn}
-use Rattle.ledger.specs.Ledger.{turnOf, vacant, toSeat, RoundedBy, seated, StandingSeats}
+use Rattle.ledger.specs.Lists.{omap, present, every}
+use Rattle.ledger.specs.Changes.{Change, follow, barOf, coming, going, changeBy}
+use Rattle.ledger.specs.Ledger.{vacant, toSeat, Rounded, seated, StandingSeats}
 use Rattle.ledger.proofs.Entries.{stop-none, stop-some}
 use Rattle.ledger.proofs.Rounds.{false-true, and-both, seated-map}
-use Rattle.undamaged.proofs.Turns.{adding-stop, adding-time, adding-moved, taking-stop, taking-time, taking-moved}
 
 -- ---- the seats of a round may be in the book
 
@@ -61,49 +61,48 @@ not-back false true e = refl
 not-back true true e = e
 not-back false false e = e
 
--- ---- what the first pass tells of a source that comes
+-- ---- a change that keeps every sum in its bounds
 
-module _ (s : Source) (b : Book) (r : Round) (g : RoundedBy (turnOf true s) (b .receivers) r) where
-  pub come-barred : (why : Refusal) → r .stop ≡ At why → firstBar (λ (x : Held). pairOf s (x .who)) 0 (b .receivers) ≡ some why
-  come-barred why e = stop-some _ why (sym (adding-stop s 0 (b .receivers)) ∙ sym (g .stop) ∙ e)
+abbrev pub KeepsSound : Change → Type 0
+KeepsSound c = (x : Held) → soundB (x .sums) ≡ true → c .fits x ≡ true → soundB (c .sums x) ≡ true
 
-  module _ (e : r .stop ≡ Nowhere) where
-    pub come-clear : firstBar (λ (x : Held). pairOf s (x .who)) 0 (b .receivers) ≡ none
-    come-clear = stop-none _ (sym (adding-stop s 0 (b .receivers)) ∙ sym (g .stop) ∙ e)
-
-    pub come-room : every (hasRoom s) (present (b .receivers)) ≡ not (r .late)
-    come-room = sym (adding-time s 0 (b .receivers) come-clear) ∙ not-back (r .late) _ (g .late (sym (g .stop) ∙ e))
-
-    come-seats : r .late ≡ false → r .seats ≡ map toSeat (map (omap (more s)) (b .receivers))
-    come-seats f = g .seats (sym (g .stop) ∙ e) f ∙ ap (map toSeat) (adding-moved s 0 (b .receivers) come-clear (come-room ∙ ap not f))
-
-    pub come-written : r .late ≡ false → seated (r .seats) (b .receivers) ≡ map (omap (more s)) (b .receivers)
-    come-written f = ap (λ (t : List Seat). seated t (b .receivers)) (come-seats f) ∙ seated-map (more s) (b .receivers)
-
-    pub come-stand : SoundBook b → r .late ≡ false → StandingSeats (r .seats)
-    come-stand h f =
-        rw (come-seats f) (seats-stand (more s) (b .receivers) (h .seats)
-        (λ j x q. (h .receivers-stand j x q .0, every-at (hasRoom s) (b .receivers) (come-room ∙ ap not f) j x q)))
-
--- ---- and of one that goes
-
-pub less-sound : (a : Account) (h : Shares) → soundB a ≡ true → soundB (minusOf a h) ≡ true
+less-sound : (a : Account) (h : Shares) → soundB a ≡ true → soundB (minusOf a h) ≡ true
 less-sound a h e =
     let l = sound-le a e in
     ap₂ _&&_ (ap₂ _&&_ (le-leb (a .day - h .day) top (omega (arith, l .0, sub-le (a .day) (h .day)))) (le-leb (a .evening - h .evening) top (omega (arith, l .1, sub-le (a .evening) (h .evening)))))
     (le-leb (a .night - h .night) top (omega (arith, l .2, sub-le (a .night) (h .night))))
 
-module _ (s : Source) (b : Book) (r : Round) (g : RoundedBy (turnOf false s) (b .receivers) r) where
-  pub leave-room : every (canReturn s) (present (b .receivers)) ≡ not (r .late)
-  leave-room = sym (taking-time s (b .receivers)) ∙ not-back (r .late) _ (g .late (taking-stop s 0 (b .receivers)))
+module _ (pair : Pairing) (s : Source) where
+  pub coming-sound : KeepsSound (coming pair s)
+  coming-sound x e f = f
 
-  leave-seats : r .late ≡ false → r .seats ≡ map toSeat (map (omap (less s)) (b .receivers))
-  leave-seats f = g .seats (taking-stop s 0 (b .receivers)) f ∙ ap (map toSeat) (taking-moved s (b .receivers) (leave-room ∙ ap not f))
+  pub going-sound : KeepsSound (going pair s)
+  going-sound x e f = less-sound (x .sums) (brought (pair s (x .who))) e
 
-  pub leave-written : r .late ≡ false → seated (r .seats) (b .receivers) ≡ map (omap (less s)) (b .receivers)
-  leave-written f = ap (λ (t : List Seat). seated t (b .receivers)) (leave-seats f) ∙ seated-map (less s) (b .receivers)
+pub changes-sound : (adding : Bool) (s : Source) → KeepsSound (changeBy adding s)
+changes-sound true s = coming-sound pairOf s
+changes-sound false s = going-sound pairOf s
 
-  pub leave-stand : SoundBook b → r .late ≡ false → StandingSeats (r .seats)
-  leave-stand h f =
-      rw (leave-seats f) (seats-stand (less s) (b .receivers) (h .seats)
-      (λ j x q. (h .receivers-stand j x q .0, less-sound (x .sums) (sharesOf s (x .who)) (h .receivers-stand j x q .1))))
+-- ---- what the first pass tells of a change
+
+module _ (c : Change) (b : Book) (r : Round) (g : Rounded c (b .receivers) r) where
+  pub change-barred : (why : Refusal) → r .stop ≡ At why → barOf c (b .receivers) ≡ some why
+  change-barred why e = stop-some _ why (sym (g .stop) ∙ e)
+
+  module _ (e : r .stop ≡ Nowhere) where
+    pub change-clear : barOf c (b .receivers) ≡ none
+    change-clear = stop-none _ (sym (g .stop) ∙ e)
+
+    pub change-fits : every (c .fits) (present (b .receivers)) ≡ not (r .late)
+    change-fits = not-back (r .late) _ (g .late change-clear)
+
+    pub change-written : r .late ≡ false → seated (r .seats) (b .receivers) ≡ map (omap (follow c)) (b .receivers)
+    change-written f = ap (λ (t : List Seat). seated t (b .receivers)) (g .seats change-clear f) ∙ seated-map (follow c) (b .receivers)
+
+    pub change-stand : KeepsSound c → SoundBook b → r .late ≡ false → StandingSeats (r .seats)
+    change-stand k h f =
+        rw (g .seats change-clear f) (seats-stand (follow c) (b .receivers) (h .seats)
+        (λ j x q. (
+          h .receivers-stand j x q .0,
+          k x (h .receivers-stand j x q .1) (every-at (c .fits) (b .receivers) (change-fits ∙ ap not f) j x q),
+        )))

@@ -1,4 +1,4 @@
--- What holds of each in a list, and the sums of an account: no bar means that every pair is heard, and no sum then passes the most that it may be.
+-- What holds of each in a list, and the sums of an account: no bar means that every pair is heard; no sum passes the most that it may be.
 -- Assumes nothing.
 use mathlib.Core.Path.{_≡_, refl, subst, _∙_}
 use mathlib.Core.Bool.{Bool, true, _&&_}
@@ -14,14 +14,13 @@ use Rattle.road.specs.declared.Source.{Source}
 use Rattle.road.specs.declared.Receiver.{Receiver}
 use Rattle.road.specs.declared.Pair.{Pair}
 use Rattle.road.specs.declared.Pair.the-variants.{Heard, Barred}
-use Rattle.road.specs.Reach.{shareOf, sharesOf, pairOf}
-use Rattle.road.proofs.Pairs.{Sound, heard-is}
+use Rattle.road.specs.Reach.{pairOf}
+use Rattle.road.specs.Pairs.{Pairing, isHeard, mostShare, shareIn, Bounded}
 use Rattle.level.specs.Level.{top}
 use Rattle.store.specs.Account.{soundB}
 use Rattle.store.specs.Store.{sourceCount, sourceSlots}
 use Rattle.store.proofs.Laws.{many-sources}
 use Rattle.ledger.specs.Lists.{present, All, sumOf, orBar, firstBar, weigh}
-use Rattle.undamaged.specs.Calls.{isHeard}
 
 -- where `cc` finds that two constructors are equal
 pub never : {A : Type 0} → _≡_ {A = ℕ} 0 1 → A
@@ -63,24 +62,17 @@ module _ {A : Type 0} (pair : A → Pair) where
 abbrev pub HearsAll : List Source → Receiver → Type 0
 HearsAll ss r = All (λ s. isHeard (pairOf s r) ≡ true) ss
 
-heard-sound : (s : Source) (r : Receiver) → isHeard (pairOf s r) ≡ true → Sound (sharesOf s r)
-heard-sound s r = go (pairOf s r) refl
+-- a source a slot at most, each of at most 10^15: no sum passes the most that it may be
+pub weigh-sound : (pair : Pairing) → Bounded pair → (S : List (Option Source)) (r : Receiver) → length S ≡ sourceSlots → soundB (weigh pair (present S) r .sums) ≡ true
+weigh-sound pair bounded S r e = and-both (and-both (below 0) (below 1)) (below 2)
   where
-    go : (p : Pair) → pairOf s r ≡ p → isHeard p ≡ true → Sound (sharesOf s r)
-    go (Heard h) e t = let q = heard-is s r h e in rw (q .0) at (q .1)
-    go (Barred b) e t = never cc
+    all : (k : ℕ) (l : List Source) → All (λ s. shareIn (pair s r) k ≤ mostShare) l
+    all k [] = tt
+    all k (s ∷ l) = (bounded s r k, all k l)
 
--- a source a slot at most, each of at most 10^15
-pub weigh-sound : (S : List (Option Source)) (r : Receiver) → length S ≡ sourceSlots
-    → HearsAll (present S) r → soundB (weigh (present S) r .sums) ≡ true
-unfolding sharesOf
-weigh-sound S r e p =
-    and-both (and-both (below 0 (λ s h. heard-sound s r h .day)) (below 1 (λ s h. heard-sound s r h .evening)))
-    (below 2 (λ s h. heard-sound s r h .night))
-  where
-    below : (k : ℕ) → ((s : Source) → isHeard (pairOf s r) ≡ true → shareOf s r k ≤ 1000000000000000) → leb (sumOf (λ s. shareOf s r k) (present S)) top ≡ true
-    below k f =
+    below : (k : ℕ) → leb (sumOf (λ s. shareIn (pair s r) k) (present S)) top ≡ true
+    below k =
         let q : length S ≡ sourceCount = e ∙ many-sources in
-        let m = sum-most (λ s. shareOf s r k) 1000000000000000 S (all-map (λ s. isHeard (pairOf s r) ≡ true) (λ s. shareOf s r k ≤ 1000000000000000) f (present S) p) in
-        let n : sumOf (λ s. shareOf s r k) (present S) ≤ sourceCount * 1000000000000000 = subst (λ n. sumOf (λ s. shareOf s r k) (present S) ≤ n * 1000000000000000) q m in
-        le-leb (sumOf (λ s. shareOf s r k) (present S)) top (omega (arith, n))
+        let m = sum-most (λ s. shareIn (pair s r) k) mostShare S (all k (present S)) in
+        let n : sumOf (λ s. shareIn (pair s r) k) (present S) ≤ sourceCount * mostShare = subst (λ n. sumOf (λ s. shareIn (pair s r) k) (present S) ≤ n * mostShare) q m in
+        le-leb (sumOf (λ s. shareIn (pair s r) k) (present S)) top (omega (arith, n))

@@ -1,7 +1,7 @@
 -- What each call of the book answers and leaves, in terms of the book: two lists of slots (document 01, 'What the book holds').
 -- A call on bytes reads them as a book, asks one of these definitions, and writes the book that it gives.
 use Prim.Native.Nat.{ℕ}
-use mathlib.Core.Bool.{Bool, true, false, cond, _&&_}
+use mathlib.Core.Bool.{Bool, true, false, cond}
 use mathlib.Core.Option.{Option, none, some}
 use mathlib.Core.List.{List, map}
 use lib.ListN.{length, getD, set}
@@ -11,22 +11,20 @@ use Rattle.answer.specs.Table.{numberBy, placeBy}
 use Rattle.answer.specs.declared.Refusal.the-variants.{Damaged, Taken, Vacant}
 use Rattle.road.specs.declared.Source.{Source}
 use Rattle.road.specs.declared.Receiver.{Receiver}
-use Rattle.road.specs.declared.Pair.{Pair}
-use Rattle.road.specs.declared.Pair.the-variants.{Heard, Barred}
 use Rattle.road.specs.declared.Verdict.{Verdict}
 use Rattle.road.specs.declared.Verdict.the-variants.{Allowed}
 use Rattle.road.specs.declared.Verdict.the-variants.{Refused as Barring}
-use Rattle.road.specs.Reach.{sharesOf, pairOf}
+use Rattle.road.specs.Reach.{pairOf}
 use Rattle.road.specs.Judge.{sourceVerdict, receiverVerdict, slotVerdict}
 use Rattle.index.specs.Index.{ldenOf, lnightOf}
 use Rattle.store.specs.declared.Held.{Held}
-use Rattle.store.specs.Account.{plusOf, minusOf, covers, roomB}
 use Rattle.store.specs.Store.{lastSource, lastReceiver, Book, book, damaged, bookOf, bookBytes, storeLength, clearedBytes}
 use Rattle.ledger.specs.Lists.{omap, present, every, firstBar, weigh}
+use Rattle.ledger.specs.Changes.{Change, follow, barOf, coming, going}
 use Rattle.undamaged.specs.declared.Answer.{Answer}
 use Rattle.undamaged.specs.declared.Answer.the-variants.{Done, Levels, Refused}
 
--- ---- slots: lists of them, the first bar and an account worked out afresh are in the ledger's specs/Lists.antt
+-- ---- slots: lists of them, the first bar and an account worked out afresh are in the ledger's specs/Lists.antt, changes in its Changes.antt
 
 module _ {A : Type 0} where
   abbrev pub used : Option A → Bool
@@ -79,44 +77,23 @@ abbrev pub unlessLate : Bool → Step → Step
 unlessLate true k = k
 unlessLate false k = refuse Damaged
 
--- ---- accounts
-
--- a receiver with a source's shares more, or less
-abbrev pub more : Source → Held → Held
-more s x = record { who = x .who; sums = plusOf (x .sums) (sharesOf s (x .who)) }
-
-abbrev pub less : Source → Held → Held
-less s x = record { who = x .who; sums = minusOf (x .sums) (sharesOf s (x .who)) }
-
--- whether a receiver's sums have room for a source's shares
-abbrev pub hasRoom : Source → Held → Bool
-hasRoom s x = roomB (x .sums) (sharesOf s (x .who))
-
--- whether a receiver can give a source's shares back: the pair is not barred and no share is above its sum
-abbrev pub isHeard : Pair → Bool
-isHeard (Heard h) = true
-isHeard (Barred b) = false
-
-abbrev pub canReturn : Source → Held → Bool
-canReturn s x = isHeard (pairOf s (x .who)) && covers (x .sums) (sharesOf s (x .who))
-
 -- ---- the calls: slot and fields first (5, 6, 7), then as each says
 
+-- a change of source slot i, which then holds o: 10 to 13, then the late 1, then the slot and all receivers follow
+abbrev pub changeSource : Change → ℕ → Option Source → Book → Step
+changeSource c i o b =
+    unlessBarred (barOf c (b .receivers))
+    (unlessLate (every (c .fits) (present (b .receivers)))
+    (change (book (set (b .sources) i o) (map (omap (follow c)) (b .receivers)))))
+
 abbrev pub enterSource : ℕ → Source → Book → Step
-enterSource i s b =
-    intoFree (getD (b .sources) i none)
-    (unlessBarred (firstBar (λ (x : Held). pairOf s (x .who)) 0 (b .receivers))
-    (unlessLate (every (hasRoom s) (present (b .receivers)))
-    (change (book (set (b .sources) i (some s)) (map (omap (more s)) (b .receivers))))))
+enterSource i s b = intoFree (getD (b .sources) i none) (changeSource (coming pairOf s) i (some s) b)
 
 unfoldable pub placeSource : ℕ → Source → Book → Step
 placeSource i s b = allow (slotVerdict lastSource i (sourceVerdict s)) (enterSource i s b)
 
 abbrev pub leaveSource : ℕ → Book → Step
-leaveSource i b =
-    fromUsed (getD (b .sources) i none) (λ s.
-    unlessLate (every (canReturn s) (present (b .receivers)))
-    (change (book (set (b .sources) i none) (map (omap (less s)) (b .receivers)))))
+leaveSource i b = fromUsed (getD (b .sources) i none) (λ s. changeSource (going pairOf s) i none b)
 
 unfoldable pub withdrawSource : ℕ → Book → Step
 withdrawSource i b = allow (slotVerdict lastSource i Allowed) (leaveSource i b)
@@ -125,7 +102,7 @@ abbrev pub enterReceiver : ℕ → Receiver → Book → Step
 enterReceiver j r b =
     intoFree (getD (b .receivers) j none)
     (unlessBarred (firstBar (λ (s : Source). pairOf s r) 0 (b .sources))
-    (change (book (b .sources) (set (b .receivers) j (some (weigh (present (b .sources)) r))))))
+    (change (book (b .sources) (set (b .receivers) j (some (weigh pairOf (present (b .sources)) r))))))
 
 unfoldable pub placeReceiver : ℕ → Receiver → Book → Step
 placeReceiver j r b = allow (slotVerdict lastReceiver j (receiverVerdict r)) (enterReceiver j r b)

@@ -16,7 +16,8 @@ use Rattle.road.specs.Judge.{sourceVerdict, receiverVerdict, slotVerdict}
 use Rattle.store.specs.declared.Held.{Held}
 use Rattle.store.specs.Store.{lastSource, lastReceiver, Book}
 use Rattle.ledger.specs.Lists.{present, every, firstBar}
-use Rattle.undamaged.specs.Calls.{refuse, hasRoom, placeSource, placeReceiver}
+use Rattle.ledger.specs.Changes.{barOf, coming}
+use Rattle.undamaged.specs.Calls.{refuse, placeSource, placeReceiver}
 
 -- the verdict on slot and fields, and the first pair that is barred
 abbrev pub sourceJudged : ℕ → Source → Verdict
@@ -32,10 +33,10 @@ pub record SourceOrder (i : ℕ) (s : Source) (b : Book) : Type 0 where
   pub then-taken : (a : Source) → sourceJudged i s ≡ Allowed → getD (b .sources) i none ≡ some a → placeSource i s b ≡ refuse Taken
   -- 10 to 13
   pub then-barred : (why : Refusal) → sourceJudged i s ≡ Allowed → getD (b .sources) i none ≡ none
-      → firstBar (λ (x : Held). pairOf s (x .who)) 0 (b .receivers) ≡ some why → placeSource i s b ≡ refuse why
+      → barOf (coming pairOf s) (b .receivers) ≡ some why → placeSource i s b ≡ refuse why
   -- the late 1
   pub then-late : sourceJudged i s ≡ Allowed → getD (b .sources) i none ≡ none
-      → firstBar (λ (x : Held). pairOf s (x .who)) 0 (b .receivers) ≡ none → every (hasRoom s) (present (b .receivers)) ≡ false
+      → barOf (coming pairOf s) (b .receivers) ≡ none → every (coming pairOf s .fits) (present (b .receivers)) ≡ false
       → placeSource i s b ≡ refuse Damaged
 
 pub record ReceiverOrder (j : ℕ) (r : Receiver) (b : Book) : Type 0 where

@@ -10,19 +10,56 @@ use road::Source;
 use road::Verdict;
 use store::Held;
 ghost use mathlib.Core.Path.{_≡_};
-ghost use mathlib.Core.Bool.{false};
+ghost use mathlib.Core.Bool.{false, cond};
+ghost use mathlib.Core.Option.{none, some};
 ghost use Prim.Native.Nat.{_<_};
+ghost use lib.ListN.{set};
 ghost use Rattle.level.specs.Table.{table};
 ghost use Rattle.road.specs.declared.Verdict.the-variants.{Allowed};
 ghost use Rattle.road.specs.Judge.{sourceVerdict, receiverVerdict};
-ghost use Rattle.store.specs.Store.{sourceCount, receiverCount, damaged, bookOf};
-ghost use Rattle.undamaged.specs.Calls.{told, enterSource, leaveSource, enterReceiver, leaveReceiver, indicesAt, placeSource, withdrawSource, placeReceiver, withdrawReceiver, askReceiver};
+ghost use Rattle.store.specs.Store.{sourceCount, receiverCount, damaged, bookOf, bookBytes, book};
+ghost use Rattle.ledger.specs.Changes.{changeBy};
+ghost use Rattle.undamaged.specs.Calls.{told, changeSource, enterSource, leaveSource, enterReceiver, leaveReceiver, indicesAt, placeSource, withdrawSource, placeReceiver, withdrawReceiver, askReceiver};
 
 // What a call answers: done, the two indices of a receiver (L_DEN, then L_Night), or a refusal.
 pub enum Answer {
     Done,
     Levels(Index, Index),
     Refused(Refusal),
+}
+
+// A source comes into slot i or goes from it: every receiver is asked first, and only then is anything written.
+fn change_source(steps: &[u32; 1000], store: &mut [u8], i: usize, s: Source, adding: bool) -> Answer
+    requires { ⌜ (now steps ≡ table) × (damaged (now store) ≡ false) × (i < sourceCount) × (sourceVerdict s ≡ Allowed) ⌝ }
+    ensures { λ r. ⌜ (r, now (store .exit)) ≡ told (now (store .entry)) (changeSource (changeBy adding s) i (cond adding (some s) none) (bookOf (now (store .entry)))) ⌝ }
+{
+    let sent = road::emission::send(steps, s);
+    let found = round::go_round(steps, store, s, sent, adding);
+    let stop = found.stop;
+    match stop {
+        Stop::At(why) => Answer::Refused(why),
+        Stop::Nowhere => {
+            if found.late {
+                return Answer::Refused(Refusal::Damaged);
+            }
+            let seats = found.seats;
+            round::write_seats(store, seats);
+            write_source(store, i, s, adding);
+            Answer::Done
+        }
+    }
+}
+
+// Writes a source into slot i, or makes the slot free.
+fn write_source(store: &mut [u8], i: usize, s: Source, adding: bool)
+    requires { ⌜ (damaged (now store) ≡ false) × (i < sourceCount) × (sourceVerdict s ≡ Allowed) ⌝ }
+    ensures { λ _. ⌜ now (store .exit) ≡ bookBytes (book (set (bookOf (now (store .entry)) .sources) i (cond adding (some s) none)) (bookOf (now (store .entry)) .receivers)) ⌝ }
+{
+    if adding {
+        store::sources::put_source(store, i, s);
+    } else {
+        store::sources::drop_source(store, i);
+    }
 }
 
 // Places a source whose fields and slot are allowed.
@@ -34,21 +71,7 @@ fn enter_source(steps: &[u32; 1000], store: &mut [u8], i: usize, s: Source) -> A
     if lane.used {
         return Answer::Refused(Refusal::Taken);
     }
-    let voices = road::emission::voices(steps, s);
-    let found = round::go_round(steps, store, s, voices, true);
-    let stop = found.stop;
-    match stop {
-        Stop::At(why) => Answer::Refused(why),
-        Stop::Nowhere => {
-            if found.late {
-                return Answer::Refused(Refusal::Damaged);
-            }
-            let seats = found.seats;
-            round::write_seats(store, seats);
-            store::sources::put_source(store, i, s);
-            Answer::Done
-        }
-    }
+    change_source(steps, store, i, s, true)
 }
 
 // Places a source.
@@ -72,16 +95,7 @@ fn leave_source(steps: &[u32; 1000], store: &mut [u8], i: usize) -> Answer
     if !lane.used {
         return Answer::Refused(Refusal::Vacant);
     }
-    let s = lane.source;
-    let voices = road::emission::voices(steps, s);
-    let found = round::go_round(steps, store, s, voices, false);
-    if found.late {
-        return Answer::Refused(Refusal::Damaged);
-    }
-    let seats = found.seats;
-    round::write_seats(store, seats);
-    store::sources::drop_source(store, i);
-    Answer::Done
+    change_source(steps, store, i, lane.source, false)
 }
 
 // Withdraws a source.

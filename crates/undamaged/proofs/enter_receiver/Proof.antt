@@ -24,7 +24,7 @@ use Rattle.undamaged.proofs.enter_receiver.Tie as tie
 -- what placing says of a slot and of the pairs
 in-slot : List ℕ → ℕ → Receiver → Option Held → Option Refusal → Answer × List ℕ
 in-slot s j r o b =
-    told s (intoFree o (unlessBarred b (change (book (bookOf s .sources) (set (bookOf s .receivers) j (some (weigh (present (bookOf s .sources)) r)))))))
+    told s (intoFree o (unlessBarred b (change (book (bookOf s .sources) (set (bookOf s .receivers) j (some (weigh pairOf (present (bookOf s .sources)) r)))))))
 
 -- a receiver with its sums, as a slot
 abbrev held : Receiver → Account → Option Held
