@@ -12,26 +12,21 @@ use borrow.Author.Tests.{eqb-true, le-ltb}
 use Rattle.answer.specs.declared.Refusal.the-variants.{Taken}
 use Rattle.level.specs.Table.{table, firstQuarter, secondQuarter, thirdQuarter, fourthQuarter}
 use Rattle.level.specs.Level.{energyOf, levelOf, upTo, decades, loudnessOf}
-use Rattle.level.specs.Figures.{Figure, right, levels}
-use Rattle.road.specs.declared.Term.{Term}
 use Rattle.road.specs.declared.Source.{Source}
-use Rattle.road.specs.declared.Shares.{Shares}
-use Rattle.road.specs.declared.Bar.the-variants.{Loud}
-use Rattle.road.specs.declared.Pair.the-variants.{Heard, Barred}
+use Rattle.road.specs.declared.Pair.{Pair}
 use Rattle.road.specs.declared.Verdict.{Verdict}
 use Rattle.road.specs.declared.Verdict.the-variants.{Allowed}
-use Rattle.road.specs.Emission.{carLevel, truckLevel}
-use Rattle.road.specs.Reach.{planSquare, spaceSquare, shareLevel, energyShare, tooLoud, shareOf, loudIn, pairOf}
+use Rattle.road.specs.Pairs.{isHeard, shareIn}
 use Rattle.road.specs.Judge.{sourceVerdict, receiverVerdict, slotVerdict}
-use Rattle.road.specs.Figures.{road, home, roads, figures}
-use Rattle.road.proofs.Figures.{figures-right}
+use Rattle.road.specs.Figures.{road, home}
+use Rattle.road.proofs.Figures.{near-allowed, far-allowed, home-allowed, near-pair}
 use Rattle.index.specs.Index.{ldenOf, lnightOf}
 use Rattle.index.specs.declared.Index.the-variants.{Quiet, Tenths}
 use Rattle.store.specs.Store.{lastSource, lastReceiver, sourceSlots, receiverSlots}
 use Rattle.undamaged.specs.declared.Answer.{Answer}
 use Rattle.undamaged.specs.declared.Answer.the-variants.{Levels, Refused}
 use Rattle.ledger.specs.Lists.{present}
-use Rattle.undamaged.specs.Calls.{Step, isHeard, refuse, allow, intoFree, told, placeSource}
+use Rattle.undamaged.specs.Calls.{Step, refuse, allow, intoFree, told, placeSource}
 use Rattle.store.proofs.Laws.{many-sources}
 use Rattle.book.specs.History.{standingReceivers, Placing, source, receiver, calls, Rebuilds, Call, PlaceSource, WithdrawSource, PlaceReceiver}
 use Rattle.book.specs.History.{Ask, storeAfter, bookAfter, answerTo, Real, accepted, kept, lastAt, row, standingSource, standingReceiver}
@@ -42,72 +37,13 @@ use Rattle.book.proofs.Laws.{StoreLaws, store-laws}
 use Rattle.book.proofs.History.{laneAfter, seatAfter, on-store, accepts-by-rule, holds-what-stands}
 use Rattle.book.proofs.Rebuild.{keeps, rebuilt}
 
--- ---- the pair, from the table of figures
+-- ---- the two roads, and what the first brings to the point
 
 abbrev near : Source
 near = road 102500
 
 abbrev far : Source
 far = road 110000
-
-nothing : Figure
-nothing = record { defined = 0; onPaper = 0 }
-
-figure : (l : List Figure) (i : ℕ) → T (right l) → getD l i nothing .defined ≡ getD l i nothing .onPaper
-unfolding right nothing
-figure [] i t = refl
-figure (f ∷ l) i t = go (eqb (f .defined) (f .onPaper)) refl t (figure l) i
-  where
-    go : (b : Bool) → eqb (f .defined) (f .onPaper) ≡ b → T (b && right l)
-        → ((i : ℕ) → T (right l) → getD l i nothing .defined ≡ getD l i nothing .onPaper)
-        → (i : ℕ) → getD (f ∷ l) i nothing .defined ≡ getD (f ∷ l) i nothing .onPaper
-    go true e t ih zero = eqb-true _ _ e
-    go true e t ih (suc i) = ih i t
-    go false e t ih i = absurd t
-
-abbrev level : ℕ → Term
-level period = shareLevel near home period
-
-abbrev above : Term → ℕ
-above t = t .up - t .down
-
-day : above (level 0) ≡ 6028
-unfolding figures levels roads
-day = figure figures 19 figures-right
-
-evening : above (level 1) ≡ 6028
-unfolding figures levels roads
-evening = figure figures 20 figures-right
-
-night : above (level 2) ≡ 5028
-unfolding figures levels roads
-night = figure figures 21 figures-right
-
-energy : (t : Term) (n : ℕ) → above t ≡ suc n → energyShare t ≡ energyOf (suc n)
-unfolding energyShare
-energy t n e = rw (le-ltb (t .up) (t .down) (omega arith), e)
-
-soft : (t : Term) (n : ℕ) → above t ≡ n → n ≤ 9000 → tooLoud t ≡ false
-soft t n e h = le-ltb 9000 (above t) (omega arith)
-
-heard : Hears near home
-unfolding pairOf spaceSquare planSquare loudIn
-heard = go _ _ _ (soft (level 0) 6028 day (omega arith)) (soft (level 1) 6028 evening (omega arith)) (soft (level 2) 5028 night (omega arith)) _
-  where
-    go : (a b c : Bool) → a ≡ false → b ≡ false → c ≡ false → (x : Shares) → isHeard (cond (a || b || c) (Barred Loud) (Heard x)) ≡ true
-    go a b c p q r x = rw (p, q, r)
-
-near-allowed : sourceVerdict near ≡ Allowed
-unfolding sourceVerdict carLevel truckLevel levelOf upTo decades table firstQuarter secondQuarter thirdQuarter fourthQuarter
-near-allowed = refl
-
-far-allowed : sourceVerdict far ≡ Allowed
-unfolding sourceVerdict carLevel truckLevel levelOf upTo decades table firstQuarter secondQuarter thirdQuarter fourthQuarter
-far-allowed = refl
-
-home-allowed : receiverVerdict home ≡ Allowed
-unfolding receiverVerdict
-home-allowed = refl
 
 -- what is told of three sums
 abbrev given : ℕ → ℕ → ℕ → Answer
@@ -117,10 +53,12 @@ energies : given (energyOf 6028) (energyOf 6028) (energyOf 5028) ≡ Levels (Ten
 unfolding energyOf loudnessOf levelOf upTo decades table firstQuarter secondQuarter thirdQuarter fourthQuarter
 energies = refl
 
+heard : Hears near home
+heard = ap isHeard near-pair
+
 -- L_DEN 61.6, L_Night 50.3
 near-levels : levelsOf (near ∷ []) home ≡ Levels (Tenths 616) (Tenths 503)
-unfolding shareOf
-near-levels = (λ i. given (energy (level 0) 6027 day i) (energy (level 1) 6027 evening i) (energy (level 2) 5027 night i)) ∙ energies
+near-levels = ap (λ (p : Pair). given (shareIn p 0) (shareIn p 1) (shareIn p 2)) near-pair ∙ energies
 
 silence : levelsOf [] home ≡ Levels Quiet Quiet
 unfolding loudnessOf

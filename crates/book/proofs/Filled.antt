@@ -3,7 +3,7 @@
 use mathlib.Core.Path.{_≡_, refl, sym, ap, subst, _∙_}
 use mathlib.Core.Bool.{true}
 use mathlib.Core.Option.{Option, none, some}
-use mathlib.Core.List.{List, _∷_, map}
+use mathlib.Core.List.{List, [], _∷_, map}
 use Prim.Native.Nat.{ℕ, _≤_, _<_}
 use native.Mathlib.Omega.{arith}
 use lib.ListN.{length, getD, set, length-set, length-map, List·getD-map}
@@ -11,7 +11,9 @@ use Rattle.road.specs.declared.Source.{Source}
 use Rattle.road.specs.declared.Receiver.{Receiver}
 use Rattle.road.specs.declared.Pair.{Pair}
 use Rattle.road.specs.declared.Verdict.the-variants.{Allowed}
-use Rattle.road.specs.Reach.{sharesOf, pairOf}
+use Rattle.road.specs.Reach.{pairOf}
+use Rattle.road.specs.Pairs.{isHeard, brought}
+use Rattle.road.proofs.Pairs.{pair-bounded}
 use Rattle.road.specs.Judge.{sourceVerdict, receiverVerdict, slotVerdict}
 use Rattle.store.specs.declared.Held.{Held}
 use Rattle.store.specs.Account.{soundB, covers}
@@ -19,7 +21,8 @@ use Rattle.store.specs.Store.{lastSource, lastReceiver, Book, book, sourceSlots
 use Rattle.store.proofs.Laws.{many-sources, many-receivers}
 use Rattle.undamaged.specs.declared.Answer.{Answer}
 use Rattle.ledger.specs.Lists.{omap, present, every, firstBar, weigh, All}
-use Rattle.undamaged.specs.Calls.{used, Step, tell, allow, fromUsed, more, less, hasRoom, canReturn}
+use Rattle.ledger.specs.Changes.{follow, barOf, coming, going}
+use Rattle.undamaged.specs.Calls.{used, Step, tell, allow, fromUsed}
 use Rattle.undamaged.specs.Calls.{placeSource, withdrawSource, placeReceiver, withdrawReceiver, askReceiver}
 use Rattle.road.proofs.Judged.{source-by, receiver-by}
 use Rattle.undamaged.proofs.Sums.{HearsAll, all-map, and-both, bars-pass, never, weigh-sound}
@@ -31,10 +34,14 @@ use Rattle.book.proofs.Accounts.{more-is, less-is, covers-is, weigh-per
 use Rattle.book.proofs.Gates.{Fine, past-free, past-used, past-bars, past-late, bars-none, bars-apart, bars-omap}
 use Rattle.book.proofs.Gates.{slot-passes, past-fields}
 
+all-here : {A : Type 0} (P : A → Type 0) → ((a : A) → P a) → (l : List A) → All P l
+all-here P f [] = tt
+all-here P f (a ∷ l) = (f a, all-here P f l)
+
 -- ---- a filled book
 
 abbrev pub fill : List (Option Source) → List (Option Receiver) → Book
-fill S R = book S (map (omap (weigh (present S))) R)
+fill S R = book S (map (omap (weigh pairOf (present S))) R)
 
 abbrev pub ReceiverStands : Receiver → Type 0
 ReceiverStands r = receiverVerdict r ≡ Allowed
@@ -48,25 +55,25 @@ pub record Standing (S : List (Option Source)) (R : List (Option Receiver)) : Ty
   pub heard : All (HearsAll (present S)) (present R)
 
 pub fill-at : (S : List (Option Source)) (R : List (Option Receiver)) (j : ℕ)
-    → getD (fill S R .receivers) j none ≡ omap (weigh (present S)) (getD R j none)
-fill-at S R j = List·getD-map (omap (weigh (present S))) R j none
+    → getD (fill S R .receivers) j none ≡ omap (weigh pairOf (present S)) (getD R j none)
+fill-at S R j = List·getD-map (omap (weigh pairOf (present S))) R j none
 
 -- a store can hold it
 pub standing-sound : (S : List (Option Source)) (R : List (Option Receiver)) → Standing S R → SoundBook (fill S R)
 standing-sound S R p = record {
   lanes = p .lanes ∙ many-sources;
-  seats = length-map R (omap (weigh (present S))) ∙ p .seats ∙ many-receivers;
+  seats = length-map R (omap (weigh pairOf (present S))) ∙ p .seats ∙ many-receivers;
   sources-stand = λ i s e. all-at SourceStands S i s (p .sources) e;
   receivers-stand = λ j x e. go j (getD R j none) refl x (sym (fill-at S R j) ∙ e);
 }
   where
-    go : (j : ℕ) (o : Option Receiver) → getD R j none ≡ o → (x : Held) → omap (weigh (present S)) o ≡ some x → HeldStands x
+    go : (j : ℕ) (o : Option Receiver) → getD R j none ≡ o → (x : Held) → omap (weigh pairOf (present S)) o ≡ some x → HeldStands x
     go j none q x e = never cc
     go j (some r) q x e =
-        let same : weigh (present S) r ≡ x = cc in
-        let ok : HeldStands (weigh (present S) r) = (
+        let same : weigh pairOf (present S) r ≡ x = cc in
+        let ok : HeldStands (weigh pairOf (present S) r) = (
           all-at ReceiverStands R j r (p .receivers) q,
-          weigh-sound S r (p .lanes) (all-at (HearsAll (present S)) R j r (p .heard) q),
+          weigh-sound pairOf pair-bounded S r (p .lanes),
         ) in
         subst HeldStands same ok
 
@@ -80,7 +87,7 @@ module _ (lane : ℕ → Option Source) (seat : ℕ → Option Receiver) where
   R = row receiverSlots seat
 
   abbrev afresh : Receiver → Held
-  afresh = weigh (present S)
+  afresh = weigh pairOf (present S)
 
   -- the book b is that of the slots as the call's moves leave them
   abbrev pub Next : Call → Book → Type 0
@@ -102,17 +109,18 @@ module _ (lane : ℕ → Option Source) (seat : ℕ → Option Receiver) where
   -- ---- a source comes
 
   module _ (i : ℕ) (s : Source) (low : i < length S) (free : getD S i none ≡ none) where
-    entered : (r : Receiver) → more s (afresh r) ≡ weigh (present (set S i (some s))) r
-    entered r = more-is s (present S) r ∙ sym (weigh-perm (perm-put S i s low free) r)
+    entered : (r : Receiver) → follow (coming pairOf s) (afresh r) ≡ weigh pairOf (present (set S i (some s))) r
+    entered r = more-is pairOf s (present S) r ∙ sym (weigh-perm pairOf (perm-put S i s low free) r)
 
-    room : All (HearsAll (present (set S i (some s)))) (present R) → every (hasRoom s) (present (fill S R .receivers)) ≡ true
-    room p =
-        every-omap afresh (hasRoom s) R
-        ∙ every-all (λ r. hasRoom s (afresh r)) (present R)
-        (all-map (HearsAll (present (set S i (some s)))) (λ r. hasRoom s (afresh r) ≡ true)
-        (λ r q. ap (λ (x : Held). soundB (x .sums)) (entered r)
-        ∙ weigh-sound (set S i (some s)) r (length-set S i (some s) ∙ row-length sourceSlots lane) q)
-        (present R) p)
+    room : every (coming pairOf s .fits) (present (fill S R .receivers)) ≡ true
+    room =
+        every-omap afresh (coming pairOf s .fits) R
+        ∙ every-all (λ r. coming pairOf s .fits (afresh r)) (present R) (all-here (λ r. coming pairOf s .fits (afresh r) ≡ true) fits (present R))
+      where
+        fits : (r : Receiver) → coming pairOf s .fits (afresh r) ≡ true
+        fits r =
+            ap (λ (x : Held). soundB (x .sums)) (entered r)
+            ∙ weigh-sound pairOf pair-bounded (set S i (some s)) r (length-set S i (some s) ∙ row-length sourceSlots lane)
 
   pub place-source : (i : ℕ) (s : Source) → Standing S R → Leads (PlaceSource i s) (placeSource i s (fill S R))
   unfolding placeSource
@@ -125,10 +133,10 @@ module _ (lane : ℕ → Option Source) (seat : ℕ → Option Receiver) where
       let low : i < length S = omega (arith, ok .0, p .lanes, many-sources) in
       let hears = bars-pass (λ r. pairOf s r) 0 R (sym (bars-omap afresh who 0 R) ∙ bars) in
       let all = all-both (λ r. Hears s r) (λ r h a. all-set (λ s. Hears s r) S i (some s) (h, tt) a) (present R) hears (p .heard) in
-      past-late _ _ _ _ _ (room i s low free all) (
+      past-late _ _ _ _ _ (room i s low free) (
         (omega (arith, ok .0, many-sources), ok .1, sym (lane-is i (ok .0)) ∙ free, hears),
         (
-          ap (book (set S i (some s))) (omap-twice afresh (more s) _ R (entered i s low free)),
+          ap (book (set S i (some s))) (omap-twice afresh (follow (coming pairOf s)) _ R (entered i s low free)),
           λ real.
               record {
                 lanes = length-set S i (some s) ∙ p .lanes;
@@ -143,30 +151,34 @@ module _ (lane : ℕ → Option Source) (seat : ℕ → Option Receiver) where
   -- ---- a source goes
 
   module _ (i : ℕ) (s : Source) (there : getD S i none ≡ some s) where
-    gone : (r : Receiver) → afresh r ≡ weigh (s ∷ present (set S i none)) r
-    gone = weigh-perm (perm-take S i s there)
+    gone : (r : Receiver) → afresh r ≡ weigh pairOf (s ∷ present (set S i none)) r
+    gone = weigh-perm pairOf (perm-take S i s there)
 
-    left : (r : Receiver) → less s (afresh r) ≡ weigh (present (set S i none)) r
-    left r = ap (less s) (gone r) ∙ less-is s (present (set S i none)) r
+    left : (r : Receiver) → follow (going pairOf s) (afresh r) ≡ weigh pairOf (present (set S i none)) r
+    left r = ap (follow (going pairOf s)) (gone r) ∙ less-is pairOf s (present (set S i none)) r
 
-    returns : All (HearsAll (present S)) (present R) → every (canReturn s) (present (fill S R .receivers)) ≡ true
+    returns : All (HearsAll (present S)) (present R) → every (going pairOf s .fits) (present (fill S R .receivers)) ≡ true
     returns p =
-        every-omap afresh (canReturn s) R
-        ∙ every-all (λ r. canReturn s (afresh r)) (present R)
-        (all-map (HearsAll (present S)) (λ r. canReturn s (afresh r) ≡ true)
+        every-omap afresh (going pairOf s .fits) R
+        ∙ every-all (λ r. going pairOf s .fits (afresh r)) (present R)
+        (all-map (HearsAll (present S)) (λ r. going pairOf s .fits (afresh r) ≡ true)
         (λ r q. and-both (all-at (λ s. Hears s r) S i s q there)
-        (ap (λ (x : Held). covers (x .sums) (sharesOf s r)) (gone r) ∙ covers-is s (present (set S i none)) r))
+        (ap (λ (x : Held). covers (x .sums) (brought (pairOf s r))) (gone r) ∙ covers-is pairOf s (present (set S i none)) r))
         (present R) p)
+
+    nobody-bars : barOf (going pairOf s) (fill S R .receivers) ≡ none
+    nobody-bars = bars-none (λ (x : Held). going pairOf s .tried (x .who)) 0 (fill S R .receivers) (all-here (λ (x : Held). isHeard (going pairOf s .tried (x .who)) ≡ true) (λ x. refl) (present (fill S R .receivers)))
 
   pub withdraw-source : (i : ℕ) → Standing S R → Leads (WithdrawSource i) (withdrawSource i (fill S R))
   unfolding withdrawSource
   withdraw-source i p =
       past-fields _ _ _ lastSource i Allowed _ tt (λ n. (omega (arith, n .0, many-sources), refl)) λ ok.
       past-used _ _ _ (getD S i none) _ (λ n. ap used (lane-is i (ok .0)) ∙ n .1) λ s there.
+      past-bars _ _ _ (barOf (going pairOf s) (fill S R .receivers)) _ (bars-apart _ 0 _) (λ n. nobody-bars i s there) λ bars.
       past-late _ _ _ _ _ (returns i s there (p .heard)) (
         (omega (arith, ok .0, many-sources), ap used (sym (lane-is i (ok .0)) ∙ there)),
         (
-          ap (book (set S i none)) (omap-twice afresh (less s) _ R (left i s there)),
+          ap (book (set S i none)) (omap-twice afresh (follow (going pairOf s)) _ R (left i s there)),
           λ real.
               record {
                 lanes = length-set S i none ∙ p .lanes;

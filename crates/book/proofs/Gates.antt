@@ -22,7 +22,8 @@ use Rattle.store.specs.Store.{Book}
 use Rattle.undamaged.specs.declared.Answer.{Answer}
 use Rattle.ledger.specs.Lists.{omap, orBar, firstBar}
 use Rattle.undamaged.specs.Calls.{used, Step, refuse, tell, change, allow, intoFree, fromUsed, unlessBarred}
-use Rattle.undamaged.specs.Calls.{unlessLate, isHeard}
+use Rattle.undamaged.specs.Calls.{unlessLate}
+use Rattle.road.specs.Pairs.{isHeard}
 use Rattle.undamaged.proofs.Sums.{heardAll, never}
 
 -- ---- gates: what the rule N allows comes past them and is fine; a refusal is not for damage, and is against the rule

@@ -20,6 +20,7 @@ use Rattle.store.specs.Store.{Book, damaged, bookOf, bookBytes, storeLength, cl
 use Rattle.store.specs.Store.{SoundBook}
 use Rattle.undamaged.specs.declared.Answer.{Answer}
 use Rattle.undamaged.specs.declared.Answer.the-variants.{Done, Levels, Refused}
+use Rattle.road.specs.Reach.{pairOf}
 use Rattle.ledger.specs.Lists.{omap, present, weigh}
 use Rattle.undamaged.specs.Calls.{numberIn, Step, refuse, tell, change, told, onStore, clearStore, placeSource, withdrawSource}
 use Rattle.undamaged.specs.Calls.{placeReceiver, withdrawReceiver, askReceiver}
@@ -133,7 +134,7 @@ nobody = record {
 }
 
 empty-filled : emptyBook ≡ fill (replicate sourceSlots none) (replicate receiverSlots none)
-empty-filled = ap (book (replicate sourceSlots none)) (sym (omap-none (weigh (present (replicate sourceSlots none))) receiverSlots))
+empty-filled = ap (book (replicate sourceSlots none)) (sym (omap-none (weigh pairOf (present (replicate sourceSlots none))) receiverSlots))
 
 -- ---- what stands is what the slots hold
 
@@ -230,13 +231,13 @@ module _ (laws : StoreLaws) where
             ∙ ap (told (storeAfter h)) (ask-tells (laneAfter (kept h)) (seatAfter (kept h)) j r q e));
       }
     where
-      who : (l : List (Option Receiver)) → map (omap (λ x. x .who)) (map (omap (weigh (standingSources h))) l) ≡ l
+      who : (l : List (Option Receiver)) → map (omap (λ x. x .who)) (map (omap (weigh pairOf (standingSources h))) l) ≡ l
       who [] = refl
       who (none ∷ l) = ap (λ (t : List (Option Receiver)). none ∷ t) (who l)
       who (some r ∷ l) = ap (λ (t : List (Option Receiver)). some r ∷ t) (who l)
 
-      same : (o : Option Receiver) (x : Held) → omap (weigh (standingSources h)) o ≡ some x → SumsOf (standingSources h) x
+      same : (o : Option Receiver) (x : Held) → omap (weigh pairOf (standingSources h)) o ≡ some x → SumsOf (standingSources h) x
       same none x e = never cc
       same (some r) x e =
-          let q : weigh (standingSources h) r ≡ x = cc in
+          let q : weigh pairOf (standingSources h) r ≡ x = cc in
           subst (SumsOf (standingSources h)) q (record { day = refl; evening = refl; night = refl })

@@ -19,12 +19,12 @@ use Rattle.road.specs.declared.Verdict.the-variants.{Allowed, Refused as Barrin
 use Rattle.road.specs.Reach.{pairOf}
 use Rattle.road.specs.Judge.{sourceVerdict, receiverVerdict, slotVerdict}
 use Rattle.road.proofs.Judged.{ByFields, source-by, receiver-by, slot-by}
-use Rattle.store.specs.declared.Held.{Held}
 use Rattle.store.specs.Store.{lastSource, lastReceiver, Book, damaged, bookOf, storeLength, clearedBytes}
 use Rattle.ledger.specs.Lists.{present, every, firstBar}
+use Rattle.ledger.specs.Changes.{Change, barOf, coming, going}
 use Rattle.undamaged.specs.declared.Answer.{Answer}
 use Rattle.undamaged.specs.declared.Answer.the-variants.{Done, Refused}
-use Rattle.undamaged.specs.Calls.{numberIn, Step, refuse, tell, change, allow, intoFree, fromUsed, unlessBarred, unlessLate, hasRoom, canReturn}
+use Rattle.undamaged.specs.Calls.{numberIn, Step, refuse, tell, change, allow, intoFree, fromUsed, unlessBarred, unlessLate, changeSource}
 use Rattle.undamaged.specs.Calls.{placeSource, withdrawSource, placeReceiver, withdrawReceiver, askReceiver, told, onStore, clearStore}
 use Rattle.book.specs.History.{Call, Clear, PlaceSource, WithdrawSource, PlaceReceiver, WithdrawReceiver, Ask, perform, BookNumber}
 use Rattle.book.proofs.Gates.{ByPair, bars-by}
@@ -62,19 +62,22 @@ given-late false k g = inr (inl refl)
 -- ---- the calls
 
 module _ (b : Book) where
+  given-change : (c : Change) (i : ℕ) (o : Option Source) → Given (changeSource c i o b)
+  given-change c i o =
+      given-pairs (barOf c (b .receivers)) _ (bars-by _ 0 (b .receivers)) (given-late (every (c .fits) (present (b .receivers))) _ tt)
+
   source-in : (i : ℕ) (s : Source) → Given (placeSource i s b)
   unfolding placeSource
   source-in i s =
       given-fields (slotVerdict lastSource i (sourceVerdict s)) _ (slot-by lastSource i (sourceVerdict s) (source-by s))
       (given-free (getD (b .sources) i none) _
-      (given-pairs (firstBar (λ (x : Held). pairOf s (x .who)) 0 (b .receivers)) _ (bars-by _ 0 (b .receivers))
-      (given-late (every (hasRoom s) (present (b .receivers))) _ tt)))
+      (given-change (coming pairOf s) i (some s)))
 
   source-out : (i : ℕ) → Given (withdrawSource i b)
   unfolding withdrawSource
   source-out i =
       given-fields (slotVerdict lastSource i Allowed) _ (slot-by lastSource i Allowed tt)
-      (given-used (getD (b .sources) i none) _ λ s. given-late (every (canReturn s) (present (b .receivers))) _ tt)
+      (given-used (getD (b .sources) i none) _ λ s. given-change (going pairOf s) i none)
 
   receiver-in : (j : ℕ) (r : Receiver) → Given (placeReceiver j r b)
   unfolding placeReceiver

@@ -11,6 +11,7 @@ use Rattle.index.specs.Index.{ldenOf, lnightOf}
 use Rattle.store.specs.declared.Held.{Held}
 use Rattle.store.specs.Store.{sourceSlots, receiverSlots, SourceStands}
 use Rattle.undamaged.specs.declared.Answer.the-variants.{Levels}
+use Rattle.road.specs.Reach.{pairOf}
 use Rattle.ledger.specs.Lists.{present, weigh, All}
 use Rattle.undamaged.proofs.Sums.{HearsAll, all-map}
 use Rattle.book.specs.History.{Call, answerTo, Real, accepted, kept, sourceMove, receiverMove, lastAt, row, standingSource}
@@ -91,12 +92,12 @@ pub keeps : (c : Call) (h k : List Call) → kept h ≡ k → accepted (answerTo
 unfolding kept
 keeps c h k q e = rw (e, q)
 
-account-is : (ss : List Source) (x : Held) → SumsOf ss x → x ≡ weigh ss (x .who)
+account-is : (ss : List Source) (x : Held) → SumsOf ss x → x ≡ weigh pairOf ss (x .who)
 account-is ss x p = λ i. record { who = x .who; sums = record { day = p .day i; evening = p .evening i; night = p .night i } }
 
 levels-perm : {l m : List Source} → List·Permᴰ l m → (r : Receiver) → levelsOf l r ≡ levelsOf m r
 levels-perm π r =
-    ap (λ (x : Held). Levels (ldenOf (x .sums .day) (x .sums .evening) (x .sums .night)) (lnightOf (x .sums .night))) (weigh-perm π r)
+    ap (λ (x : Held). Levels (ldenOf (x .sums .day) (x .sums .evening) (x .sums .night)) (lnightOf (x .sums .night))) (weigh-perm pairOf π r)
 
 module _ (laws : StoreLaws) where
   all-accepted : (ks : List Placing) → Together ks → AllAccepted (calls ks) × (kept (calls ks) ≡ calls ks)
@@ -151,8 +152,8 @@ module _ (laws : StoreLaws) where
       record {
         all-accepted = all .0;
         same-accounts = λ j k x y ex ey q.
-            account-is _ x (before .sums j x ex) ∙ ap (weigh (standingSources h)) q
-            ∙ sym (account-is _ y (after .sums k y ey) ∙ weigh-perm π (y .who));
+            account-is _ x (before .sums j x ex) ∙ ap (weigh pairOf (standingSources h)) q
+            ∙ sym (account-is _ y (after .sums k y ey) ∙ weigh-perm pairOf π (y .who));
         same-levels = λ x j m q e.
             let at = entering-at receiverSlots (receiversIn ks) x (g .receiver-slots) m in
             after .levels (x .slot) (x .entry) (at .0) (placed-receiver ks (all .1) (x .slot) ∙ at .1)

@@ -13,7 +13,8 @@ use Rattle.answer.specs.Table.{Between}
 use Rattle.road.specs.declared.Source.{Source}
 use Rattle.road.specs.declared.Receiver.{Receiver}
 use Rattle.road.specs.declared.Verdict.the-variants.{Allowed}
-use Rattle.road.specs.Reach.{shareOf, pairOf}
+use Rattle.road.specs.Reach.{pairOf}
+use Rattle.road.specs.Pairs.{isHeard, shareIn}
 use Rattle.road.specs.Judge.{sourceVerdict, receiverVerdict}
 use Rattle.index.specs.Index.{ldenOf, lnightOf}
 use Rattle.store.specs.declared.Held.{Held}
@@ -21,7 +22,7 @@ use Rattle.store.specs.Store.{Book, damaged, bookOf, clearedBytes, sourceSlots,
 use Rattle.undamaged.specs.declared.Answer.{Answer}
 use Rattle.undamaged.specs.declared.Answer.the-variants.{Done, Levels, Refused}
 use Rattle.ledger.specs.Lists.{omap, present, All, sumOf}
-use Rattle.undamaged.specs.Calls.{numberIn, used, isHeard, placeSource, withdrawSource, placeReceiver, withdrawReceiver, askReceiver}
+use Rattle.undamaged.specs.Calls.{numberIn, used, placeSource, withdrawSource, placeReceiver, withdrawReceiver, askReceiver}
 use Rattle.undamaged.specs.Calls.{onStore, clearStore}
 
 -- ---- a history: any calls, the latest first, refused ones among them
@@ -134,7 +135,7 @@ standingReceivers h = present (row receiverSlots (standingReceiver h))
 
 -- the energy that a receiver gets from sources in one period: 0 day, 1 evening, 2 night
 abbrev pub total : List Source → Receiver → ℕ → ℕ
-total ss r period = sumOf (λ s. shareOf s r period) ss
+total ss r period = sumOf (λ s. shareIn (pairOf s r) period) ss
 
 -- ---- first theorem: after every history the store holds just what stands, each receiver with the sums of what stands
 

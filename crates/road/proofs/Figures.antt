@@ -1,13 +1,103 @@
--- All the figures that are proved are those on paper: one test, computed over one table. Assumes nothing.
-use lib.Dec.{T}
+-- All the figures that are proved are those on paper: one test, computed over one table; and the pair of the 25 m case by them.
+-- Assumes nothing.
+use mathlib.Core.Path.{_≡_, refl, _∙_}
+use mathlib.Core.Bool.{Bool, true, false, _&&_, _||_}
+use mathlib.Core.List.{List, [], _∷_}
+use Prim.Native.Nat.{ℕ, zero, suc, _-_, _*_, _≤_}
+use native.Mathlib.Omega.{arith}
+use lib.Dec.{T, eqb}
+use lib.ListN.{getD}
+use borrow.Author.Tests.{eqb-true, le-ltb}
 use Rattle.level.specs.Table.{table, firstQuarter, secondQuarter, thirdQuarter, fourthQuarter}
 use Rattle.level.specs.Level.{energyOf, levelOf, upTo, decades}
-use Rattle.level.specs.Figures.{right, levels}
+use Rattle.level.specs.Figures.{Figure, right, levels}
+use Rattle.road.specs.declared.Term.{Term}
+use Rattle.road.specs.declared.Shares.{Shares}
+use Rattle.road.specs.declared.Pair.the-variants.{Heard}
+use Rattle.road.specs.declared.Verdict.the-variants.{Allowed}
+use Rattle.road.specs.Judge.{sourceVerdict, receiverVerdict}
 use Rattle.root.specs.Root.{rootOf, rooted}
 use Rattle.road.specs.Emission.{trafficTerm, carLevel, truckLevel, speedTerm, surfaceTerm, gradientTerm, reflectionTerm}
-use Rattle.road.specs.Reach.{planSquare, spaceSquare, lengthTerm, distanceTerm, groundTerm, wallsTerm, weatherTerm, shareLevel}
-use Rattle.road.specs.Figures.{roads, figures}
+use Rattle.road.specs.Reach.{square, planSquare, spaceSquare, lengthTerm, distanceTerm, groundTerm, wallsTerm, weatherTerm, shareLevel, energyShare, tooLoud, shareOf, loudIn, sharesOf, pairOf}
+use Rattle.road.specs.Figures.{road, home, roads, figures}
+use Rattle.road.proofs.Pairs.{pair-heard}
 
 pub figures-right : T (right figures)
 unfolding right figures levels roads table firstQuarter secondQuarter thirdQuarter fourthQuarter energyOf levelOf upTo decades rootOf rooted trafficTerm carLevel truckLevel speedTerm surfaceTerm gradientTerm reflectionTerm planSquare spaceSquare lengthTerm distanceTerm groundTerm wallsTerm weatherTerm shareLevel
 figures-right = tt
+
+-- ---- a figure by its place in the table
+
+nothing : Figure
+nothing = record { defined = 0; onPaper = 0 }
+
+figure : (l : List Figure) (i : ℕ) → T (right l) → getD l i nothing .defined ≡ getD l i nothing .onPaper
+unfolding right nothing
+figure [] i t = refl
+figure (f ∷ l) i t = go (eqb (f .defined) (f .onPaper)) refl t (figure l) i
+  where
+    go : (b : Bool) → eqb (f .defined) (f .onPaper) ≡ b → T (b && right l)
+        → ((i : ℕ) → T (right l) → getD l i nothing .defined ≡ getD l i nothing .onPaper)
+        → (i : ℕ) → getD (f ∷ l) i nothing .defined ≡ getD (f ∷ l) i nothing .onPaper
+    go true e t ih zero = eqb-true _ _ e
+    go true e t ih (suc i) = ih i t
+    go false e t ih i = absurd t
+
+abbrev level : ℕ → Term
+level period = shareLevel (road 102500) home period
+
+abbrev above : Term → ℕ
+above t = t .up - t .down
+
+day : above (level 0) ≡ 6028
+unfolding figures levels roads
+day = figure figures 19 figures-right
+
+evening : above (level 1) ≡ 6028
+unfolding figures levels roads
+evening = figure figures 20 figures-right
+
+night : above (level 2) ≡ 5028
+unfolding figures levels roads
+night = figure figures 21 figures-right
+
+energy : (t : Term) (n : ℕ) → above t ≡ suc n → energyShare t ≡ energyOf (suc n)
+unfolding energyShare
+energy t n e = rw (le-ltb (t .up) (t .down) (omega arith), e)
+
+soft : (t : Term) (n : ℕ) → above t ≡ n → n ≤ 9000 → tooLoud t ≡ false
+soft t n e h = le-ltb 9000 (above t) (omega arith)
+
+pub near-allowed : sourceVerdict (road 102500) ≡ Allowed
+unfolding sourceVerdict carLevel truckLevel levelOf upTo decades table firstQuarter secondQuarter thirdQuarter fourthQuarter
+near-allowed = refl
+
+pub far-allowed : sourceVerdict (road 110000) ≡ Allowed
+unfolding sourceVerdict carLevel truckLevel levelOf upTo decades table firstQuarter secondQuarter thirdQuarter fourthQuarter
+far-allowed = refl
+
+pub home-allowed : receiverVerdict home ≡ Allowed
+unfolding receiverVerdict
+home-allowed = refl
+
+-- ---- the 25 m case: the road brings 60.28 dB by day and in the evening, and 50.28 dB at night
+
+abbrev near-shares : Shares
+near-shares = record { day = energyOf 6028; evening = energyOf 6028; night = energyOf 5028 }
+
+quiet : (loudIn (road 102500) home 0 || loudIn (road 102500) home 1 || loudIn (road 102500) home 2) ≡ false
+unfolding loudIn
+quiet = rw (soft (level 0) 6028 day (omega arith), soft (level 1) 6028 evening (omega arith), soft (level 2) 5028 night (omega arith))
+
+shares-are : sharesOf (road 102500) home ≡ near-shares
+unfolding sharesOf shareOf
+shares-are = λ i. record { day = energy (level 0) 6027 day i; evening = energy (level 1) 6027 evening i; night = energy (level 2) 5027 night i }
+
+apart-is : spaceSquare (road 102500) home ≡ 6372500
+unfolding spaceSquare planSquare
+apart-is = refl
+
+pub near-pair : pairOf (road 102500) home ≡ Heard near-shares
+near-pair =
+    pair-heard (road 102500) home (omega (arith, apart-is)) (omega (arith, apart-is)) (omega (arith, apart-is)) quiet
+    ∙ (λ i. Heard (shares-are i))
