@@ -1,14 +1,12 @@
 -- The 25 m case as a history: place, ask, a refused placing, withdraw. What it is answered, computed from the table of figures and the theorems.
 -- Assumes the laws of the store, given as a parameter.
 use mathlib.Core.Path.{_≡_, refl, sym, ap, subst, _∙_}
-use mathlib.Core.Bool.{Bool, true, false, cond, _&&_, _||_}
+use mathlib.Core.Bool.{false}
 use mathlib.Core.Option.{Option, none, some}
 use mathlib.Core.List.{List, [], _∷_, List·Memᴰ·head, List·Permᴰ, Permᴰ·refl}
-use Prim.Native.Nat.{ℕ, zero, suc, _+_, _-_, _≤_, _<_}
+use Prim.Native.Nat.{ℕ, _+_, _-_, _<_}
 use native.Mathlib.Omega.{arith}
-use lib.Dec.{T, eqb}
 use lib.ListN.{getD}
-use borrow.Author.Tests.{eqb-true, le-ltb}
 use Rattle.answer.specs.declared.Refusal.the-variants.{Taken}
 use Rattle.level.specs.Table.{table, firstQuarter, secondQuarter, thirdQuarter, fourthQuarter}
 use Rattle.level.specs.Level.{energyOf, levelOf, upTo, decades, loudnessOf}
@@ -17,7 +15,7 @@ use Rattle.road.specs.declared.Pair.{Pair}
 use Rattle.road.specs.declared.Verdict.{Verdict}
 use Rattle.road.specs.declared.Verdict.the-variants.{Allowed}
 use Rattle.road.specs.Pairs.{isHeard, shareIn}
-use Rattle.road.specs.Judge.{sourceVerdict, receiverVerdict, slotVerdict}
+use Rattle.road.specs.Judge.{sourceVerdict, slotVerdict}
 use Rattle.road.specs.Figures.{road, home}
 use Rattle.road.proofs.Figures.{near-allowed, far-allowed, home-allowed, near-pair}
 use Rattle.index.specs.Index.{ldenOf, lnightOf}

@@ -108,8 +108,8 @@ fn meet(steps: &[u32; 1000], s: Source) -> Outcome
     match judge::judge_source(steps, s) {
         Verdict::Refused(why) => Outcome::Refused(why),
         Verdict::Allowed => {
-            let voices = emission::voices(steps, s);
-            told(reach::pair(steps, s, voices, point()))
+            let sent = emission::send(steps, s);
+            told(reach::pair(steps, s, sent, point()))
         }
     }
 }

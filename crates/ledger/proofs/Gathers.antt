@@ -1,10 +1,10 @@
 -- The gathering of all standing sources at a receiver: its steps, from the lowest slot on.
 -- No sum can pass the most that it may be: there is at most one share a source slot, and each is at most 10^15. Assumes nothing.
-use mathlib.Core.Path.{_≡_, refl, sym, ap, ap₂, _∙_, subst}
-use mathlib.Core.Bool.{Bool, true, false, _&&_}
+use mathlib.Core.Path.{_≡_, refl, sym, ap, _∙_}
+use mathlib.Core.Bool.{true}
 use mathlib.Core.Option.{Option, none, some}
 use mathlib.Core.List.{List, [], _∷_}
-use Prim.Native.Nat.{ℕ, zero, suc, _+_, _*_, _≤_, _<_}
+use Prim.Native.Nat.{ℕ, suc, _+_, _*_, _≤_, _<_}
 use native.Mathlib.Numerals.{add-one}
 use native.Mathlib.Omega.{arith}
 use lib.ListN.{length, getD, drop, drop-of-length-le}
@@ -19,14 +19,14 @@ use Rattle.road.specs.declared.Pair.{Pair}
 use Rattle.road.specs.declared.Pair.the-variants.{Heard}
 use Rattle.road.specs.declared.Pair.the-variants.{Barred as Bars}
 use Rattle.road.specs.Pairs.{Pairing, mostShare, shareIn, Bounded}
+use Rattle.road.proofs.Pairs.{heard-most}
 use Rattle.store.specs.declared.Account.{Account}
 use Rattle.level.specs.Level.{top}
-use Rattle.store.specs.Account.{soundB, plusOf, roomB, nothing}
+use Rattle.store.specs.Account.{plusOf, roomB, nothing}
 use Rattle.store.specs.Store.{sourceCount}
-use Rattle.ledger.specs.declared.round.Stop.{Stop}
 use Rattle.ledger.specs.declared.round.Stop.the-variants.{Nowhere, At}
 use Rattle.ledger.specs.declared.gather.Gathered.{Gathered}
-use Rattle.ledger.specs.Lists.{present, sumOf, barAt, orBar, firstBar, weigh}
+use Rattle.ledger.specs.Lists.{present, sumOf, barAt, orBar, firstBar}
 use Rattle.ledger.specs.Ledger.{stopOf, Gathering}
 
 module _ (pair : Pairing) (bounded : Bounded pair) (r : Receiver) where
@@ -95,7 +95,7 @@ module _ (pair : Pairing) (bounded : Bounded pair) (r : Receiver) where
 
       pub gather-room : (s : Source) (x : Shares) → i < sourceCount → pair s r ≡ Heard x → roomB sums x ≡ true
       gather-room s x b t =
-          let k : (p : ℕ) → shareIn (Heard x) p ≤ mostShare = λ p. subst (λ (q : Pair). shareIn q p ≤ mostShare) t (bounded s r p) in
+          let k = heard-most pair bounded s r x t in
           let d : sums .day + x .day ≤ top = omega (arith, g .day .small, k 0) in
           let e : sums .evening + x .evening ≤ top = omega (arith, g .evening .small, k 1) in
           let n : sums .night + x .night ≤ top = omega (arith, g .night .small, k 2) in

@@ -1,7 +1,7 @@
 -- The refusal of a pair is settled. Of the other functions, what is: docs/DECISIONS.md says what they leave open, and why.
 -- Assumes nothing.
 use denote.Ref.{now}
-use mathlib.Core.Path.{_≡_, sym, ap, _∙_}
+use mathlib.Core.Path.{_≡_, sym, _∙_}
 use mathlib.Core.Bool.{false}
 use Rattle.answer.specs.Settled.{Settles, SettlesResult}
 use Rattle.answer.proofs.Settled.{settled}

@@ -1,7 +1,7 @@
 -- What a change of one source slot is to the receivers: a source comes, or a source goes.
 -- Another change is another definition here; the rounds and the book's proofs are for any of them.
 use mathlib.Core.Bool.{Bool, cond, _&&_}
-use mathlib.Core.Option.{Option, none, some}
+use mathlib.Core.Option.{Option}
 use mathlib.Core.List.{List}
 use Rattle.answer.specs.declared.Refusal.{Refusal}
 use Rattle.road.specs.declared.Source.{Source}

@@ -3,7 +3,7 @@
 use mathlib.Core.Path.{_≡_, refl, _∙_}
 use mathlib.Core.Bool.{Bool, true, false, _&&_, _||_}
 use mathlib.Core.List.{List, [], _∷_}
-use Prim.Native.Nat.{ℕ, zero, suc, _-_, _*_, _≤_}
+use Prim.Native.Nat.{ℕ, zero, suc, _-_, _≤_}
 use native.Mathlib.Omega.{arith}
 use lib.Dec.{T, eqb}
 use lib.ListN.{getD}
@@ -18,7 +18,7 @@ use Rattle.road.specs.declared.Verdict.the-variants.{Allowed}
 use Rattle.road.specs.Judge.{sourceVerdict, receiverVerdict}
 use Rattle.root.specs.Root.{rootOf, rooted}
 use Rattle.road.specs.Emission.{trafficTerm, carLevel, truckLevel, speedTerm, surfaceTerm, gradientTerm, reflectionTerm}
-use Rattle.road.specs.Reach.{square, planSquare, spaceSquare, lengthTerm, distanceTerm, groundTerm, wallsTerm, weatherTerm, shareLevel, energyShare, tooLoud, shareOf, loudIn, sharesOf, pairOf}
+use Rattle.road.specs.Reach.{planSquare, spaceSquare, lengthTerm, distanceTerm, groundTerm, wallsTerm, weatherTerm, shareLevel, energyShare, tooLoud, shareOf, loudIn, sharesOf, pairOf}
 use Rattle.road.specs.Figures.{road, home, roads, figures}
 use Rattle.road.proofs.Pairs.{pair-heard}
 

@@ -1,18 +1,17 @@
 -- What callers may use of a pair: when it is barred and when it is heard, and that an accepted share is at most 10^15.
 -- First, that the code's way of adding up gives the definition's. Assumes nothing.
-use mathlib.Core.Path.{_≡_, refl, sym, ap, ap₂, _∙_, subst}
+use mathlib.Core.Path.{_≡_, refl, sym, ap, _∙_, subst}
 use mathlib.Core.Bool.{Bool, true, false, cond, _||_}
-use mathlib.Core.List.{List, [], _∷_}
+use mathlib.Core.List.{[], _∷_}
 use Prim.Native.Nat.{ℕ, zero, suc, _+_, _-_, _*_, _/_, _^_, _≤_, _<_}
-use native.Mathlib.Nat.{sub-le, mul-comm, mul-le-mul, mul-le-mul-left, div-le-of-le-mul, le-trans}
-use native.Mathlib.Decide.{decLe, decLt}
+use native.Mathlib.Nat.{sub-le, mul-comm, mul-le-mul-left, div-le-of-le-mul}
+use native.Mathlib.Decide.{decLe}
 use native.Mathlib.Omega.{arith}
 use lib.ListN.{getD}
 use lib.Dec.{leb, ltb, eqb}
 use borrow.Author.Tests.{lt-ltb, le-ltb, ltb-false}
-use Rattle.level.specs.Level.{lvOf, energyOf}
+use Rattle.level.specs.Level.{energyOf}
 use Rattle.level.proofs.Laws.{energy-rises, energy-decade}
-use Rattle.root.specs.Root.{rootOf}
 use Rattle.road.specs.declared.Term.{Term}
 use Rattle.road.specs.declared.Source.{Source}
 use Rattle.road.specs.declared.Receiver.{Receiver}
@@ -23,12 +22,12 @@ use Rattle.road.specs.declared.Bar.the-variants.{Near, Far, Long, Loud}
 use Rattle.road.specs.declared.Pair.{Pair}
 use Rattle.road.specs.declared.Pair.the-variants.{Heard, Barred}
 use Rattle.road.specs.declared.Part.{Part}
-use Rattle.road.specs.Term.{term, _⊕_, period}
+use Rattle.road.specs.Term.{_⊕_, period}
 use Rattle.road.specs.Emission.{emissionLevel}
-use Rattle.road.specs.Reach.{square, planSquare, spaceSquare, lengthTerm, distanceTerm, groundTerm, wallsTerm, weatherOf, weatherTerm, rayHeight, shareLevel, energyShare, tooLoud, shareOf, loudIn, sharesOf, pairOf}
-use Rattle.road.specs.Pairs.{mostShare, shareIn, Bounded}
+use Rattle.road.specs.Reach.{square, planSquare, spaceSquare, lengthTerm, distanceTerm, groundTerm, wallsTerm, weatherTerm, rayHeight, shareLevel, energyShare, tooLoud, shareOf, loudIn, sharesOf, pairOf}
+use Rattle.road.specs.Pairs.{Pairing, mostShare, shareIn, Bounded}
 use Rattle.road.specs.Limits.{longest}
-use Rattle.road.specs.Inner.{silent, voiceOf, voicesOf, voicedPart, wayOf, partIn, pairBy, hearOf}
+use Rattle.road.specs.Inner.{silent, voiceOf, voicesOf, voicedPart, wayOf, pairBy, hearOf}
 use Rattle.road.proofs.Bounds.{times, lv-small}
 use Rattle.road.proofs.Sums.{term-eq, Small}
 
@@ -217,6 +216,9 @@ pair-bounded s r i =
     unless-barred (ltb (spaceSquare s r) (4 * square (s .length))) Long _ i (nothing-brought s r Long i) λ long.
     unless-barred (loudIn s r 0 || loudIn s r 1 || loudIn s r 2) Loud _ i (nothing-brought s r Loud i) λ quiet.
     no-loud s r quiet i
+
+pub heard-most : (pair : Pairing) → Bounded pair → (s : Source) (r : Receiver) (h : Shares) → pair s r ≡ Heard h → (i : ℕ) → shareIn (Heard h) i ≤ mostShare
+heard-most pair bounded s r h e i = subst (λ (p : Pair). shareIn p i ≤ mostShare) e (bounded s r i)
 
 -- the case of a pair that is in reach and nowhere loud
 pub pair-heard : (s : Source) (r : Receiver) → 250000 ≤ spaceSquare s r → spaceSquare s r ≤ 40000000000 → 4 * square (s .length) ≤ spaceSquare s r

@@ -1,27 +1,25 @@
 -- How the terms add up: bounds of each, that the order of adding does not matter, and the share of a voice case by case.
 -- Assumes nothing.
-use mathlib.Core.Path.{_≡_, refl, sym, ap, ap₂, _∙_}
+use mathlib.Core.Path.{_≡_, refl, ap}
 use mathlib.Core.Bool.{Bool, true, false, cond, _&&_}
 use mathlib.Core.List.{List, [], _∷_}
 use Prim.Native.Nat.{ℕ, zero, suc, _+_, _-_, _*_, _/_, _%_, _≤_, _<_, min}
-use native.Mathlib.Nat.{min-le-left, le-trans}
+use native.Mathlib.Nat.{min-le-left}
 use native.Mathlib.Omega.{arith}
 use lib.ListN.{getD}
 use lib.Dec.{T, leb, ltb, eqb, leb→le}
-use borrow.Author.Tests.{lt-ltb, le-ltb, eq-eqb, ne-eqb}
-use Rattle.level.specs.Level.{lvOf, energyOf}
+use borrow.Author.Tests.{lt-ltb, le-ltb, eq-eqb}
+use Rattle.level.specs.Level.{energyOf}
 use Rattle.level.proofs.Every.{and-left, and-right}
 use Rattle.road.specs.declared.Term.{Term}
 use Rattle.road.specs.declared.Traffic.{Traffic}
 use Rattle.road.specs.declared.Source.{Source}
 use Rattle.road.specs.declared.Voice.{Voice}
 use Rattle.road.specs.declared.emission.Pace.{Pace}
-use Rattle.road.specs.declared.Part.{Part}
-use Rattle.road.specs.Term.{term, adds, takes, _⊕_, period}
-use Rattle.road.specs.Emission.{vehicles, trafficTerm, carSpeed, truckSpeed, carLevel, truckLevel, truckGain, speedTerm, surfaceTable, surfaceColumn, surfaceEntry, surfaceTerm, gradientTerm, reflectionTable, reflectionTerm, emissionLevel}
-use Rattle.road.specs.Reach.{lengthTerm, distanceTerm, groundTerm, wallsTerm, weatherTerm, energyShare, tooLoud}
+use Rattle.road.specs.Term.{_⊕_, period}
+use Rattle.road.specs.Emission.{vehicles, trafficTerm, carSpeed, truckSpeed, truckGain, speedTerm, surfaceTable, surfaceColumn, surfaceEntry, surfaceTerm, gradientTerm, reflectionTable, reflectionTerm}
+use Rattle.road.specs.Reach.{lengthTerm, wallsTerm, energyShare}
 use Rattle.road.specs.Limits.{longest, mostVehicles, allTrucks}
-use Rattle.road.specs.Judge.{sourceVerdict}
 use Rattle.road.specs.Inner.{paceOf, speedBy, steadyTerm, silent, voiceBy, voiceOf, voicesOf, voicedPart, Modest, Moderate}
 use Rattle.road.proofs.Bounds.{times, lv-small, car-most, gain-small, gain-energy}
 use Rattle.road.proofs.Fit.{FitTraffic, FitSource}

@@ -1,7 +1,7 @@
 -- Values that only inner functions of this crate and of reach hand on: what a road sends out, and a share before it is told to the caller.
 -- A reader of the promises can pass over this file.
 use Prim.Native.Nat.{ℕ, _+_, _-_, _*_, _≤_}
-use mathlib.Core.Bool.{Bool, true, false, cond, not, _||_}
+use mathlib.Core.Bool.{true, false, cond, _||_}
 use mathlib.Core.List.{List, [], _∷_}
 use lib.ListN.{getD}
 use lib.Dec.{eqb}

@@ -17,7 +17,6 @@ use Rattle.road.specs.declared.Verdict.the-variants.{Refused as Barring}
 use Rattle.road.specs.Reach.{pairOf}
 use Rattle.road.specs.Judge.{sourceVerdict, receiverVerdict, slotVerdict}
 use Rattle.index.specs.Index.{ldenOf, lnightOf}
-use Rattle.store.specs.declared.Held.{Held}
 use Rattle.store.specs.Store.{lastSource, lastReceiver, Book, book, damaged, bookOf, bookBytes, storeLength, clearedBytes}
 use Rattle.ledger.specs.Lists.{omap, present, every, firstBar, weigh}
 use Rattle.ledger.specs.Changes.{Change, follow, barOf, coming, going}

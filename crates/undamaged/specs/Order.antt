@@ -2,7 +2,7 @@
 -- Each line says what is answered whatever holds of the tests behind it; `in-order` of proofs/Answered.antt proves them.
 use Prim.Native.Nat.{ℕ}
 use mathlib.Core.Path.{_≡_}
-use mathlib.Core.Bool.{true, false}
+use mathlib.Core.Bool.{false}
 use mathlib.Core.Option.{none, some}
 use lib.ListN.{getD}
 use Rattle.answer.specs.declared.Refusal.{Refusal}

@@ -1,18 +1,14 @@
 -- `hear` puts the three periods together. Assumes nothing.
-use mathlib.Core.Path.{_≡_, refl, sym, ap, ap₂, _∙_}
-use Prim.Native.Nat.{ℕ, _+_, _-_, _*_, _/_, _≤_, _<_}
+use mathlib.Core.Path.{_≡_, sym, ap, _∙_}
+use Prim.Native.Nat.{ℕ, _-_}
 use native.Mathlib.Omega.{arith}
 use borrow.Author.Needs.{needs}
-use mathlib.Core.Bool.{Bool, true, false, _||_}
-use borrow.Author.Tests.{not-true}
-use mathlib.Core.List.{List}
+use mathlib.Core.Bool.{true, false, _||_}
 use lib.ListN.{getD}
 use Rattle.root.specs.Root.{rootOf}
 use Rattle.root.proofs.Laws.{root-settled}
 use Rattle.road.specs.declared.Term.{Term}
-use Rattle.road.specs.declared.Voice.{Voice}
 use Rattle.road.specs.declared.Bar.the-variants.{Loud}
-use Rattle.road.specs.declared.Pair.{Pair}
 use Rattle.road.specs.declared.Pair.the-variants.{Heard, Barred}
 use Rattle.road.specs.declared.Part.{Part}
 use Rattle.road.specs.Term.{_⊕_}

@@ -1,9 +1,8 @@
 -- `pair` tries the bars in their order, and then hears. Assumes nothing.
-use mathlib.Core.Path.{_≡_, refl, sym, ap, ap₂, _∙_}
-use Prim.Native.Nat.{ℕ, _+_, _-_, _*_, _/_, _≤_, _<_}
+use mathlib.Core.Path.{_≡_, sym, ap, _∙_}
+use Prim.Native.Nat.{ℕ, _+_, _-_, _*_, _≤_}
 use native.Mathlib.Omega.{arith}
 use borrow.Author.Needs.{needs}
-use Rattle.road.specs.declared.Voice.{Voice}
 use Rattle.road.specs.Limits.{coordinate, longest, highestReceiver}
 use Rattle.road.specs.Reach.{sourceHeight, square, planSquare, spaceSquare, rayHeight}
 use Rattle.road.specs.Inner.{hearOf}
@@ -11,7 +10,6 @@ use Rattle.road.proofs.Bounds.{times}
 use Rattle.road.proofs.Fit.{FitSource, FitReceiver, fit-source, fit-receiver}
 use Rattle.road.proofs.Sums.{moderate, small-length}
 use Rattle.road.proofs.Pairs.{pair-near, pair-far, pair-long, pair-within}
-use mathlib.Core.List.{List}
 use Rattle.reach.proofs.pair.Statement.{statement}
 use Rattle.reach.proofs.pair.Tie as tie
 

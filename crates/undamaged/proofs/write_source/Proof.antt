@@ -1,5 +1,5 @@
 -- `write_source` leaves the bytes of the book with the slot's new entry. Assumes nothing.
-use mathlib.Core.Path.{_≡_, sym, ap, _∙_}
+use mathlib.Core.Path.{sym, ap, _∙_}
 use mathlib.Core.Bool.{Bool, cond}
 use mathlib.Core.Option.{none, some}
 use borrow.Author.Needs.{needs}

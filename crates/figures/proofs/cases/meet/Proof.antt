@@ -24,8 +24,8 @@ enum-known-why c = search needs
 enum-told : tie.Need-enum-told
 enum-told c = search needs
 
-voices-requires : tie.Need-voices-requires
-voices-requires c κs = (c .before .before .before .pre, sym (c .before .before .judge-source .ensures) ∙ c .enum-told .given .1)
+send-requires : tie.Need-send-requires
+send-requires c κs = (c .before .before .before .pre, sym (c .before .before .judge-source .ensures) ∙ c .enum-told .given .1)
 
 point-requires : tie.Need-point-requires
 point-requires c κs = search needs
@@ -33,7 +33,7 @@ point-requires c κs = search needs
 pair-requires : tie.Need-pair-requires
 pair-requires c κs =
     let judged = c .before .before .before .before in
-    (judged .before .pre, sym (judged .judge-source .ensures) ∙ c .before .before .enum-told .given .1, c .before .voices .ensures, ap receiverVerdict (c .point .ensures) ∙ home-allowed)
+    (judged .before .pre, sym (judged .judge-source .ensures) ∙ c .before .before .enum-told .given .1, c .before .send .ensures, ap receiverVerdict (c .point .ensures) ∙ home-allowed)
 
 told-requires : tie.Need-told-requires
 told-requires c κs = search needs
@@ -53,7 +53,7 @@ meet-spec =
     judge-source-requires
     enum-known-why
     enum-told
-    voices-requires
+    send-requires
     point-requires
     pair-requires
     told-requires

@@ -2,7 +2,8 @@
 -- Assumes nothing.
 use native.Mathlib.Omega.{arith}
 use Rattle.road.specs.Figures.{home}
-use Rattle.road.proofs.Pairs.{heard-is}
+use Rattle.road.specs.Reach.{pairOf}
+use Rattle.road.proofs.Pairs.{pair-bounded, heard-most}
 use borrow.Author.Needs.{needs}
 use Rattle.figures.proofs.cases.twice.Statement.{statement}
 use Rattle.figures.proofs.cases.twice.Tie as tie
@@ -25,7 +26,7 @@ enum-known-h c = search needs
 add-both : tie.Need-add-both
 add-both c =
     let m = c .before .before .before .before in
-    omega (arith, heard-is (m .before .street .result) home _ (m .meet .ensures _ (c .before .before .h .given .1)) .1 .night)
+    omega (arith, heard-most pairOf pair-bounded (m .before .street .result) home _ (m .meet .ensures _ (c .before .before .h .given .1)) 2)
 
 level-requires : tie.Need-level-requires
 level-requires c κs = search needs

@@ -1,11 +1,9 @@
 -- `gather` adds up what the sources bring, from the lowest slot on. Assumes nothing.
-use mathlib.Core.Path.{_≡_, refl, sym, ap, ap₂, _∙_}
-use Prim.Native.Nat.{ℕ, _+_, _-_, _*_, _/_, _≤_, _<_}
+use mathlib.Core.Path.{_≡_, refl, sym, ap, _∙_}
+use Prim.Native.Nat.{ℕ, _-_, _≤_, _<_}
 use native.Mathlib.Omega.{arith}
 use borrow.Author.Needs.{needs}
-use mathlib.Core.Bool.{Bool, true, false, cond, not}
 use mathlib.Core.Option.{Option, none, some}
-use mathlib.Core.List.{List, [], _∷_, _++_, map}
 use lib.ListN.{getD, length}
 use Rattle.road.specs.declared.Source.{Source}
 use Rattle.road.specs.declared.Shares.{Shares}
@@ -16,11 +14,8 @@ use Rattle.road.specs.declared.Pair.the-variants.{Heard}
 use Rattle.road.specs.declared.Pair.the-variants.{Barred as Bars}
 use Rattle.road.specs.Reach.{pairOf}
 use Rattle.road.proofs.Pairs.{pair-bounded}
-use Rattle.store.specs.declared.Account.{Account}
-use Rattle.store.specs.Account.{plusOf}
 use Rattle.store.specs.Store.{sourceCount, bookOf}
 use Rattle.store.proofs.Laws.{sound-book}
-use Rattle.ledger.specs.declared.gather.Offer.{Offer}
 use Rattle.ledger.specs.declared.gather.Offer.the-variants.{Free as Nobody, Heard as Brings, Barred as Stops}
 use Rattle.ledger.specs.declared.round.Stop.the-variants.{At}
 use Rattle.ledger.specs.Ledger.{offerBy, offerOf}

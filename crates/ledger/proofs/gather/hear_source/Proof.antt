@@ -1,14 +1,12 @@
 -- `hear_source` reads a slot and tells what its source brings. Assumes nothing.
-use mathlib.Core.Path.{_≡_, refl, sym, ap, ap₂, _∙_}
-use Prim.Native.Nat.{ℕ, _+_, _-_, _*_, _/_, _≤_, _<_}
+use mathlib.Core.Path.{_≡_, refl, sym, ap, _∙_}
+use Prim.Native.Nat.{_-_}
 use borrow.Author.Needs.{needs}
-use mathlib.Core.Bool.{Bool, true, false, cond, not}
-use mathlib.Core.Option.{Option, none, some}
+use mathlib.Core.Bool.{true}
+use mathlib.Core.Option.{none}
 use borrow.Author.Tests.{not-true, not-false}
-use mathlib.Core.List.{List, [], _∷_, _++_, map}
 use lib.ListN.{getD}
 use Rattle.road.specs.declared.Pair.{Pair}
-use Rattle.road.specs.declared.Source.{Source}
 use Rattle.store.specs.declared.Lane.{Lane}
 use Rattle.store.specs.Store.{bookOf, sourceAt, laneOf, SourceStands}
 use Rattle.store.proofs.Laws.{undamaged}

@@ -1,13 +1,9 @@
 -- `go_round` asks every receiver from the lowest slot on and keeps the seats as they would be. Assumes nothing.
-use mathlib.Core.Path.{_≡_, refl, sym, ap, ap₂, _∙_}
-use Prim.Native.Nat.{ℕ, _+_, _-_, _*_, _/_, _≤_, _<_}
+use mathlib.Core.Path.{sym, ap, _∙_}
+use Prim.Native.Nat.{_-_, _≤_, _<_}
 use native.Mathlib.Omega.{arith}
-use mathlib.Core.Bool.{Bool, true, false}
-use mathlib.Core.Option.{Option, none, some}
-use mathlib.Core.List.{List}
 use borrow.Author.Needs.{needs}
-use lib.ListN.{getD, length}
-use Rattle.store.specs.declared.Held.{Held}
+use lib.ListN.{length}
 use Rattle.store.specs.Store.{receiverCount, bookOf}
 use Rattle.store.proofs.Laws.{undamaged, sound-book}
 use Rattle.ledger.specs.declared.round.Stop.the-variants.{At}

@@ -1,5 +1,5 @@
 -- `meet` works the pair out, and its shares more or less. Assumes nothing.
-use mathlib.Core.Path.{_≡_, refl, sym, ap, _∙_}
+use mathlib.Core.Path.{_≡_, sym, ap, _∙_}
 use mathlib.Core.Bool.{Bool, true, false}
 use borrow.Author.Needs.{needs}
 use Rattle.road.specs.declared.Source.{Source}
@@ -8,7 +8,6 @@ use Rattle.road.specs.declared.Pair.the-variants.{Heard}
 use Rattle.road.specs.declared.Pair.the-variants.{Barred as Bars}
 use Rattle.road.specs.Reach.{pairOf}
 use Rattle.store.specs.declared.Held.{Held}
-use Rattle.ledger.specs.declared.round.Turn.{Turn}
 use Rattle.ledger.specs.Changes.{changeBy}
 use Rattle.ledger.specs.Ledger.{raisedBy, loweredBy, turnOf}
 use Rattle.ledger.proofs.round.meet.Statement.{statement}

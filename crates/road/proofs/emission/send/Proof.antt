@@ -1,8 +1,5 @@
 -- `send` puts a source's voices and its length's term together. Assumes nothing.
-use mathlib.Core.List.{List}
 use borrow.Author.Needs.{needs}
-use Rattle.road.specs.declared.Term.{Term}
-use Rattle.road.specs.declared.Voice.{Voice}
 use Rattle.road.proofs.Fit.{fit-source}
 use Rattle.road.proofs.emission.send.Statement.{statement}
 use Rattle.road.proofs.emission.send.Tie as tie

@@ -1,15 +1,15 @@
 -- `voices` works out the three periods from what is the same for all of them. Assumes nothing.
-use mathlib.Core.Path.{_≡_, refl, sym, ap, ap₂, _∙_}
-use Prim.Native.Nat.{ℕ, _+_, _-_, _*_, _/_, _≤_, _<_}
+use mathlib.Core.Path.{_≡_, ap₂, _∙_}
+use Prim.Native.Nat.{ℕ, _-_}
 use borrow.Author.Needs.{needs}
-use mathlib.Core.List.{List, [], _∷_}
+use mathlib.Core.List.{[], _∷_}
 use Rattle.road.specs.declared.Source.{Source}
 use Rattle.road.specs.declared.Term.{Term}
 use Rattle.road.specs.declared.Voice.{Voice}
 use Rattle.road.specs.declared.emission.Pace.{Pace}
 use Rattle.road.specs.Term.{period}
 use Rattle.road.specs.Inner.{paceOf, steadyTerm, voiceBy, voiceOf, voicesOf}
-use Rattle.road.proofs.Fit.{FitTraffic, FitSource, fit-source}
+use Rattle.road.proofs.Fit.{fit-source}
 use Rattle.road.proofs.Sums.{Small, Paced, paced, small-steady, voice-is}
 use Rattle.road.proofs.emission.voices.Statement.{statement}
 use Rattle.road.proofs.emission.voices.Tie as tie
