@@ -1,15 +1,15 @@
 -- The laws of the tables of fields: values and what has them, the numbers of the code's rows, and the room in records and slots.
 -- Assumes nothing.
-use Prim.Native.Nat.{ℕ, zero, suc, _+_, _*_, _^_, _≤_, _<_}
-use mathlib.Core.Path.{_≡_, refl, sym, ap, _∙_, subst⁻¹}
+use Prim.Native.Nat.{ℕ, zero, suc, _+_, _-_, _*_, _^_, _≤_, _<_}
+use mathlib.Core.Path.{_≡_, refl, sym, ap, _∙_, subst, subst⁻¹}
 use mathlib.Core.Bool.{Bool, true, _&&_}
-use mathlib.Core.List.{List, [], _∷_}
+use mathlib.Core.List.{List, [], _∷_, _++_}
 use native.Mathlib.Nat.{lt-of-lt-of-le}
 use native.Mathlib.Omega.{arith}
 use lib.Dec.{leb, ltb}
-use lib.ListN.{length, getD, take, drop}
+use lib.ListN.{length, getD, take, drop, length-drop}
 use lib.Pow.{pow-mono}
-use lib.Seq.{drop-nil}
+use lib.Seq.{drop-nil, take-all}
 use borrow.Author.Tests.{leb-true, ltb-true}
 use Rattle.layout.specs.Layout.{Within}
 use Rattle.layout.proofs.Bounds.{both}
@@ -86,30 +86,41 @@ module _ {A : Type 0} where
       let b = both (leb (r .bits) (8 * r .bytes)) (roomy t) h in
       (below r x (b .0) (w .0), wider t v (b .1) (w .1))
 
-  pub fit-wider : (t : List (Row A)) (k : ℕ) (v : List ℕ) → roomy t ≡ true → Fit (bitsBy t) k v → Fit (slotBitsBy t) k v
-  fit-wider [] k v h w = tt
-  fit-wider (r ∷ t) k v h w =
+  -- also where more fields follow
+  pub fit-wider : (t : List (Row A)) (more : List ℕ) (k : ℕ) (v : List ℕ) → roomy t ≡ true → Fit (bitsBy t ++ more) k v → Fit (slotBitsBy t) k v
+  fit-wider [] more k v h w = tt
+  fit-wider (r ∷ t) more k v h w =
       let b = both (leb (r .bits) (8 * r .bytes)) (roomy t) h in
-      (below r (getD v k 0) (b .0) (w .0), fit-wider t (suc k) v (b .1) (w .1))
+      (below r (getD v k 0) (b .0) (w .0), fit-wider t more (suc k) v (b .1) (w .1))
 
--- ---- what fits from its front on fits from further on
-
-fit-next : (ws : List ℕ) (k x : ℕ) (v : List ℕ) → Fit ws k v → Fit ws (suc k) (x ∷ v)
-fit-next [] k x v h = tt
-fit-next (w ∷ ws) k x v h = (h .0, fit-next ws (suc k) x v (h .1))
+-- ---- values that stand further on
 
 fit-tail : (ws : List ℕ) (k : ℕ) (v : List ℕ) → Fit ws (suc k) v → Fit ws k (drop 1 v)
 fit-tail [] k v h = tt
 fit-tail (w ∷ ws) k [] h = (h .0, fit-tail ws (suc k) [] (h .1))
 fit-tail (w ∷ ws) k (x ∷ v) h = (h .0, fit-tail ws (suc k) (x ∷ v) (h .1))
 
-pub fit-past : (n : ℕ) (ws v : List ℕ) → Fit ws 0 v → Fit (drop n ws) 0 (drop n v)
-fit-past zero ws v h = h
-fit-past (suc n) [] v h = tt
-fit-past (suc n) (w ∷ ws) [] h = subst⁻¹ (Fit (drop n ws) 0) (sym (drop-nil n)) (fit-past n ws [] (fit-tail ws 0 [] (h .1)))
-fit-past (suc n) (w ∷ ws) (x ∷ v) h = fit-past n ws v (fit-tail ws 0 (x ∷ v) (h .1))
+fit-drop : (ws : List ℕ) (at : ℕ) (v : List ℕ) → Fit ws at v → Fit ws 0 (drop at v)
+fit-drop ws zero v h = h
+fit-drop ws (suc at) [] h = subst (Fit ws 0) (drop-nil at) (fit-drop ws at [] (fit-tail ws at [] h))
+fit-drop ws (suc at) (x ∷ v) h = fit-drop ws at v (fit-tail ws at (x ∷ v) h)
 
--- the fields of a record at the front of v
+-- the part of v from index at on, as the code lends it
+module _ (at : ℕ) (v : List ℕ) where
+  pub part-all : take (length v - at) (drop at v) ≡ drop at v
+  part-all = take-all (length v - at) (drop at v) (omega (arith, length-drop at v))
+
+  pub part-fit : (n : ℕ) (ws : List ℕ) → at + n ≤ length v → Fit ws at v
+      → (n ≤ length (take (length v - at) (drop at v))) × Fit ws 0 (take (length v - at) (drop at v))
+  part-fit n ws l h =
+      subst⁻¹ (λ (p : List ℕ). (n ≤ length p) × Fit ws 0 p) part-all (omega (arith, length-drop at v), fit-drop ws at v h)
+
+-- ---- the fields of a record at the front of v
+
+fit-next : (ws : List ℕ) (k x : ℕ) (v : List ℕ) → Fit ws k v → Fit ws (suc k) (x ∷ v)
+fit-next [] k x v h = tt
+fit-next (w ∷ ws) k x v h = (h .0, fit-next ws (suc k) x v (h .1))
+
 pub record-fit : (ws v : List ℕ) → Within ws (take (length ws) v) → Fit ws 0 v
 record-fit [] v w = tt
 record-fit (n ∷ ws) [] w = absurd w

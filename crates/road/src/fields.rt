@@ -8,8 +8,8 @@ use crate::limits;
 ghost use mathlib.Core.Path.{_≡_};
 ghost use mathlib.Core.Bool.{cond};
 ghost use mathlib.Core.List.{[]};
-ghost use Prim.Native.Nat.{_≤_, _<_};
-ghost use lib.ListN.{length};
+ghost use Prim.Native.Nat.{_+_, _≤_, _<_};
+ghost use lib.ListN.{length, drop};
 ghost use Rattle.road.specs.Fields.{sourceTable, receiverTable, sourceOf, receiverOf, valuesBy, leastBy, mostBy, slotBitsBy, numberBy, rowsBy, plain, Fit};
 
 // The columns of a row: the field's number, its bits in a record, its bytes in a slot, the least and the most that it may be.
@@ -189,7 +189,7 @@ pub fn receiver_values(r: Receiver) -> [u64; 3]
 }
 
 // The source of the values at the front of v.
-pub fn source_of(v: &[u64]) -> Source
+fn source_by(v: &[u64]) -> Source
     requires { ⌜ (18 ≤ length (now v)) × Fit (slotBitsBy sourceTable) 0 (now v) ⌝ }
     ensures { λ r. ⌜ r ≡ sourceOf (now (v .entry)) ⌝ }
 {
@@ -223,8 +223,16 @@ pub fn source_of(v: &[u64]) -> Source
     }
 }
 
+// The source of the values from index at on.
+pub fn source_of(v: &[u64], at: usize) -> Source
+    requires { ⌜ (at + 18 ≤ length (now v)) × Fit (slotBitsBy sourceTable) at (now v) ⌝ }
+    ensures { λ r. ⌜ r ≡ sourceOf (drop at (now (v .entry))) ⌝ }
+{
+    source_by(&v[at..])
+}
+
 // The receiver of the values at the front of v.
-pub fn receiver_of(v: &[u64]) -> Receiver
+fn receiver_by(v: &[u64]) -> Receiver
     requires { ⌜ (3 ≤ length (now v)) × Fit (slotBitsBy receiverTable) 0 (now v) ⌝ }
     ensures { λ r. ⌜ r ≡ receiverOf (now (v .entry)) ⌝ }
 {
@@ -233,6 +241,14 @@ pub fn receiver_of(v: &[u64]) -> Receiver
         y: v[1] as u32,
         height: v[2] as u16,
     }
+}
+
+// The receiver of the values from index at on.
+pub fn receiver_of(v: &[u64], at: usize) -> Receiver
+    requires { ⌜ (at + 3 ≤ length (now v)) × Fit (slotBitsBy receiverTable) at (now v) ⌝ }
+    ensures { λ r. ⌜ r ≡ receiverOf (drop at (now (v .entry))) ⌝ }
+{
+    receiver_by(&v[at..])
 }
 
 // One of two numbers.
