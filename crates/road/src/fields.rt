@@ -23,7 +23,7 @@ const LEAST: usize = 3;
 
 const MOST: usize = 4;
 
-// The limits of the gradient are for a road that rises, those of height and spacing for walls that are there.
+// The rows of a source. The limits of the gradient are for a road that rises, those of height and spacing for walls that are there.
 pub const SOURCE: [[u64; 5]; 18] = [
     // x, y, length, lanes
     [2, 24, 3, 0, limits::COORDINATE],
@@ -49,13 +49,15 @@ pub const SOURCE: [[u64; 5]; 18] = [
     [19, 10, 2, 0, limits::ALL_TRUCKS],
 ];
 
-// x, y, height
+// The rows of a receiver.
 pub const RECEIVER: [[u64; 5]; 3] = [
+    // x, y, height
     [2, 24, 3, 0, limits::COORDINATE],
     [3, 24, 3, 0, limits::COORDINATE],
     [4, 9, 2, limits::LOWEST_RECEIVER, limits::HIGHEST_RECEIVER],
 ];
 
+// The two columns of limits, of a receiver and of a source.
 pub(crate) const RECEIVER_LEAST: [u64; 3] = [
     RECEIVER[0][LEAST],
     RECEIVER[1][LEAST],
@@ -67,13 +69,6 @@ pub(crate) const RECEIVER_MOST: [u64; 3] = [
     RECEIVER[1][MOST],
     RECEIVER[2][MOST],
 ];
-
-// The rows whose limits depend on a field before them.
-const GRADIENT: usize = 7;
-
-const HEIGHT: usize = 10;
-
-const SPACING: usize = 11;
 
 const SOURCE_LEAST: [u64; 18] = [
     SOURCE[0][LEAST],
@@ -116,6 +111,13 @@ const SOURCE_MOST: [u64; 18] = [
     SOURCE[16][MOST],
     SOURCE[17][MOST],
 ];
+
+// The rows whose limits depend on a field before them.
+const GRADIENT: usize = 7;
+
+const HEIGHT: usize = 10;
+
+const SPACING: usize = 11;
 
 // The rows of a source, with the limits of a road that rises between walls.
 fn source_rows() -> [[u64; 5]; 18]
