@@ -2,24 +2,17 @@
 -- A new kind is a new clause of each law. Assumes nothing.
 use Prim.Native.Nat.{ℕ, zero, suc, _+_, _<_}
 use mathlib.Core.Path.{_≡_, refl, sym, ap, _∙_, subst⁻¹}
-use mathlib.Core.Bool.{Bool, true, false, cond}
 use mathlib.Core.List.{List, [], _∷_}
 use native.Mathlib.Omega.{arith}
-use borrow.Author.Tests.{ltb-false}
-use lib.Dec.{ltb, eqb, lit<}
+use lib.Dec.{lit<}
 use lib.ListN.{length}
 use Rattle.layout.specs.Layout.{size, packed, Within}
-use Rattle.layout.specs.Bounds.{firstOutside, Inside, under}
-use Rattle.layout.proofs.Bounds.{none-outside, inside-within}
-use Rattle.answer.specs.declared.Refusal.the-variants.{Field, SlowSurface, QuietTruck}
-use Rattle.road.specs.declared.Receiver.{Receiver}
 use Rattle.road.specs.declared.Source.{Source}
-use Rattle.road.specs.declared.Verdict.{Verdict}
-use Rattle.road.specs.declared.Verdict.the-variants.{Allowed, Refused}
-use Rattle.road.proofs.Fit.{passed}
+use Rattle.road.specs.declared.Verdict.the-variants.{Allowed}
+use Rattle.road.proofs.Fit.{source-within, receiver-within}
 use Rattle.road.proofs.Judged.{slot-allowed}
 use Rattle.road.proofs.Periods.{periods-again}
-use Rattle.road.specs.Judge.{sourceFields, sourceLeast, sourceMost, receiverFields, receiverLeast, receiverMost, unlessOutside, slowSurface, quietTruck, sourceVerdict, receiverVerdict}
+use Rattle.road.specs.Judge.{sourceVerdict, receiverVerdict}
 use Rattle.codec.specs.declared.Request.{Request}
 use Rattle.codec.specs.declared.Request.the-variants.{PlaceReceiver, WithdrawReceiver, PlaceSource, WithdrawSource, Ask}
 use Rattle.codec.specs.Record.{recordOf}
@@ -28,36 +21,6 @@ use Rattle.codec.proofs.Laws.{first-filled}
 use Rattle.codec.specs.Kinds.{lastNamedSource, lastNamedReceiver, at, kindAt, layoutOf, leftoverOf, verdictOf, kindNumber, fieldsOf, sourceWith}
 
 -- ---- an allowed call has fields that fit
-
-all-inside : (least most fields : List ℕ) (v : Verdict) → unlessOutside least most fields v ≡ Allowed → Inside least most fields
-all-inside least most fields v e =
-    none-outside least most fields
-    (ltb-false (firstOutside least most fields) (length fields)
-    (passed (ltb (firstOutside least most fields) (length fields)) (Field (2 + firstOutside least most fields)) v e .0))
-
-receiver-within : (r : Receiver) → receiverVerdict r ≡ Allowed → Within (24 ∷ 24 ∷ 9 ∷ []) (receiverFields r)
-unfolding receiverVerdict
-receiver-within r e =
-    inside-within (24 ∷ 24 ∷ 9 ∷ []) receiverLeast receiverMost (receiverFields r) refl refl
-    (all-inside receiverLeast receiverMost (receiverFields r) Allowed e)
-
-abbrev roadWidths : List ℕ
-roadWidths = 24 ∷ 24 ∷ 17 ∷ 1 ∷ 8 ∷ 8 ∷ 4 ∷ 8 ∷ 3 ∷ 2 ∷ 12 ∷ 14 ∷ 24 ∷ 10 ∷ 24 ∷ 10 ∷ 24 ∷ 10 ∷ []
-
-most-under : (s : Source) → under roadWidths (sourceMost s) ≡ true
-most-under s = go (ltb (s .gradient) 128) refl (eqb (s .walls) 0) refl
-  where
-    go : (a : Bool) → ltb (s .gradient) 128 ≡ a → (b : Bool) → eqb (s .walls) 0 ≡ b → under roadWidths (sourceMost s) ≡ true
-    go true e true f = rw (e, f) refl
-    go true e false f = rw (e, f) refl
-    go false e true f = rw (e, f) refl
-    go false e false f = rw (e, f) refl
-
-source-within : (s : Source) → sourceVerdict s ≡ Allowed → Within roadWidths (sourceFields s)
-unfolding sourceVerdict
-source-within s e =
-    inside-within roadWidths (sourceLeast s) (sourceMost s) (sourceFields s) (most-under s) refl
-    (all-inside (sourceLeast s) (sourceMost s) (sourceFields s) (cond (slowSurface s) (Refused SlowSurface) (cond (quietTruck s) (Refused QuietTruck) Allowed)) e)
 
 pub call-within : (c : Request) (s : Source) → verdictOf c s ≡ Allowed → Within (layoutOf (kindNumber c)) (fieldsOf c s)
 unfolding kindAt verdictOf

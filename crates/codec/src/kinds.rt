@@ -5,6 +5,7 @@ use road::Receiver;
 use road::Source;
 use road::Traffic;
 use road::Verdict;
+use road::fields;
 use road::judge;
 ghost use mathlib.Core.Path.{_≡_};
 ghost use mathlib.Core.List.{_∷_};
@@ -312,7 +313,7 @@ pub fn fields_of(call: Request, source: Source) -> [u64; 25]
         }
         Request::WithdrawReceiver(slot) => join(2, slot, &leftover),
         Request::PlaceSource(slot) => {
-            let fields = judge::source_fields(source);
+            let fields = fields::source_values(source);
             join(3, slot, &fields)
         }
         Request::WithdrawSource(slot) => join(4, slot, &leftover),

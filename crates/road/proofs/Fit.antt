@@ -1,14 +1,16 @@
--- What allowed fields tell: the bounds of each, and that a truck is no quieter than a car. Assumes nothing.
+-- What allowed fields tell: the bounds of each, that they fit a record and a slot, and that a truck is no quieter than a car.
+-- Assumes nothing.
 use mathlib.Core.Path.{_≡_, refl, sym, subst}
 use mathlib.Core.Bool.{Bool, true, false, cond}
 use mathlib.Core.List.{List}
 use Prim.Native.Nat.{ℕ, suc, _+_, _≤_, _<_}
 use native.Mathlib.Omega.{arith}
-use lib.ListN.{length, getD}
+use lib.ListN.{length, getD, length-map}
 use lib.Dec.{ltb, eqb}
 use borrow.Author.Tests.{ltb-false, ne-eqb}
-use Rattle.layout.specs.Bounds.{firstOutside}
-use Rattle.layout.proofs.Bounds.{inside-at}
+use Rattle.layout.specs.Layout.{Within}
+use Rattle.layout.specs.Bounds.{under}
+use Rattle.layout.proofs.Bounds.{inside-at, inside-within, none-outside}
 use Rattle.answer.specs.declared.Refusal.{Refusal}
 use Rattle.answer.specs.declared.Refusal.the-variants.{Field, SlowSurface, QuietTruck}
 use Rattle.road.specs.declared.Source.{Source}
@@ -18,23 +20,33 @@ use Rattle.road.specs.declared.Verdict.the-variants.{Allowed, Refused}
 use Rattle.road.specs.Term.{period}
 use Rattle.road.specs.Emission.{carSpeed, truckSpeed, carLevel, truckLevel}
 use Rattle.road.specs.Limits.{coordinate, longest, lastSurface, lastReflection, mostVehicles, allTrucks, lowestReceiver, highestReceiver}
-use Rattle.road.specs.Judge.{sourceFields, sourceLeast, sourceMost, receiverFields, receiverLeast, receiverMost, unlessOutside, slowSurface, quietTruck, sourceVerdict, receiverVerdict}
+use Rattle.road.specs.Emission.{sign}
+use Rattle.road.specs.Fields.{Row, sourceTable, receiverTable, valuesBy, leastBy, mostBy, bitsBy, slotBitsBy, numberBy}
+use Rattle.road.proofs.Rows.{wider}
+use Rattle.road.specs.Judge.{outsideBy, unlessOutside, slowSurface, quietTruck, sourceVerdict, receiverVerdict}
 
 -- a verdict that allows has passed each test on its way
 pub passed : (b : Bool) (r : Refusal) (v : Verdict) → cond b (Refused r) v ≡ Allowed → (b ≡ false) × (v ≡ Allowed)
 passed true r v e = absurd (let z : _≡_ {A = ℕ} 0 1 = cc in omega arith)
 passed false r v e = (refl, e)
 
-past : (least most fields : List ℕ) (v : Verdict) → unlessOutside least most fields v ≡ Allowed
-    → (ltb (firstOutside least most fields) (length fields) ≡ false) × (v ≡ Allowed)
-past least most fields v e = passed (ltb (firstOutside least most fields) (length fields)) (Field (2 + firstOutside least most fields)) v e
+module _ {A : Type 0} (t : List (Row A)) (a : A) (v : Verdict) (e : unlessOutside t a v ≡ Allowed) where
+  past : (ltb (outsideBy t a) (length t) ≡ false) × (v ≡ Allowed)
+  past = passed (ltb (outsideBy t a) (length t)) (Field (numberBy t (outsideBy t a))) v e
 
--- each field has its bounds
-bounded : (least most fields : List ℕ) (v : Verdict) → unlessOutside least most fields v ≡ Allowed → (i : ℕ) → i < length fields
-    → (getD least i 0 ≤ getD fields i 0) × (getD fields i 0 ≤ getD most i 0)
-bounded least most fields v e i h =
-    let n : length fields ≤ firstOutside least most fields = ltb-false _ _ (past least most fields v e .0) in
-    inside-at least most fields i (omega arith)
+  -- each field has its bounds
+  bounded : (i : ℕ) → i < length t → (getD (leastBy t a) i 0 ≤ getD (valuesBy t a) i 0) × (getD (valuesBy t a) i 0 ≤ getD (mostBy t a) i 0)
+  bounded i h =
+      let n : length t ≤ outsideBy t a = ltb-false _ _ (past .0) in
+      inside-at (leastBy t a) (mostBy t a) (valuesBy t a) i (omega arith)
+
+  -- and fits the widths that its greatest value fits
+  fits : (ws : List ℕ) → under ws (mostBy t a) ≡ true → length t ≡ length ws → Within ws (valuesBy t a)
+  fits ws u l =
+      let n : length t ≤ outsideBy t a = ltb-false _ _ (past .0) in
+      let k = length-map t (λ (r : Row A). r .value a) in
+      inside-within ws (leastBy t a) (mostBy t a) (valuesBy t a) u (omega arith)
+      (none-outside (leastBy t a) (mostBy t a) (valuesBy t a) (omega arith))
 
 pub record FitTraffic (m p : ℕ) : Type 0 where
   pub few : m ≤ mostVehicles
@@ -58,8 +70,8 @@ pub fit-source : (s : Source) → sourceVerdict s ≡ Allowed → FitSource s
 unfolding sourceVerdict
 fit-source s e =
     let v : Verdict = cond (slowSurface s) (Refused SlowSurface) (cond (quietTruck s) (Refused QuietTruck) Allowed) in
-    let b = bounded (sourceLeast s) (sourceMost s) (sourceFields s) v e in
-    let q = passed (slowSurface s) SlowSurface (cond (quietTruck s) (Refused QuietTruck) Allowed) (past (sourceLeast s) (sourceMost s) (sourceFields s) v e .1) in
+    let b = bounded sourceTable s v e in
+    let q = passed (slowSurface s) SlowSurface (cond (quietTruck s) (Refused QuietTruck) Allowed) (past sourceTable s v e .1) in
     record {
       x = b 0 (omega arith) .1;
       y = b 1 (omega arith) .1;
@@ -75,6 +87,25 @@ fit-source s e =
       louder = ltb-false _ _ (passed (quietTruck s) QuietTruck Allowed (q .1) .0);
     }
 
+-- the greatest values fit, whatever the gradient's sign and whether or not there are walls
+most-under : (s : Source) → under (bitsBy sourceTable) (mostBy sourceTable s) ≡ true
+most-under s = go (ltb (s .gradient) sign) refl (eqb (s .walls) 0) refl
+  where
+    go : (a : Bool) → ltb (s .gradient) sign ≡ a → (b : Bool) → eqb (s .walls) 0 ≡ b → under (bitsBy sourceTable) (mostBy sourceTable s) ≡ true
+    go true e true f = rw (e, f) refl
+    go true e false f = rw (e, f) refl
+    go false e true f = rw (e, f) refl
+    go false e false f = rw (e, f) refl
+
+pub source-within : (s : Source) → sourceVerdict s ≡ Allowed → Within (bitsBy sourceTable) (valuesBy sourceTable s)
+unfolding sourceVerdict
+source-within s e =
+    fits sourceTable s (cond (slowSurface s) (Refused SlowSurface) (cond (quietTruck s) (Refused QuietTruck) Allowed)) e
+    (bitsBy sourceTable) (most-under s) refl
+
+pub source-in-slot : (s : Source) → sourceVerdict s ≡ Allowed → Within (slotBitsBy sourceTable) (valuesBy sourceTable s)
+source-in-slot s e = wider sourceTable (valuesBy sourceTable s) refl (source-within s e)
+
 pub record FitReceiver (r : Receiver) : Type 0 where
   pub x : r .x ≤ coordinate
   pub y : r .y ≤ coordinate
@@ -84,5 +115,12 @@ pub record FitReceiver (r : Receiver) : Type 0 where
 pub fit-receiver : (r : Receiver) → receiverVerdict r ≡ Allowed → FitReceiver r
 unfolding receiverVerdict
 fit-receiver r e =
-    let b = bounded receiverLeast receiverMost (receiverFields r) Allowed e in
+    let b = bounded receiverTable r Allowed e in
     record { x = b 0 (omega arith) .1; y = b 1 (omega arith) .1; low = b 2 (omega arith) .0; high = b 2 (omega arith) .1 }
+
+pub receiver-within : (r : Receiver) → receiverVerdict r ≡ Allowed → Within (bitsBy receiverTable) (valuesBy receiverTable r)
+unfolding receiverVerdict
+receiver-within r e = fits receiverTable r Allowed e (bitsBy receiverTable) refl refl
+
+pub receiver-in-slot : (r : Receiver) → receiverVerdict r ≡ Allowed → Within (slotBitsBy receiverTable) (valuesBy receiverTable r)
+receiver-in-slot r e = wider receiverTable (valuesBy receiverTable r) refl (receiver-within r e)

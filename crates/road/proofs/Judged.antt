@@ -9,28 +9,27 @@ use native.Mathlib.Omega.{arith}
 use borrow.Author.Tests.{lt-ltb, le-ltb, leb-true}
 use lib.Dec.{ltb, leb}
 use lib.ListN.{length}
-use Rattle.layout.specs.Bounds.{firstOutside}
 use Rattle.answer.specs.declared.Refusal.the-variants.{Damaged, Field, SlowSurface, QuietTruck}
 use Rattle.answer.specs.Table.{numberOf, Between}
 use Rattle.road.specs.declared.Source.{Source}
 use Rattle.road.specs.declared.Receiver.{Receiver}
 use Rattle.road.specs.declared.Verdict.{Verdict}
 use Rattle.road.specs.declared.Verdict.the-variants.{Allowed, Refused}
-use Rattle.road.specs.Judge.{sourceFields, sourceLeast, sourceMost, receiverFields, receiverLeast, receiverMost, unlessOutside}
-use Rattle.road.specs.Judge.{slowSurface, quietTruck, sourceVerdict, receiverVerdict, slotVerdict}
+use Rattle.road.specs.Fields.{Row, numberBy, sourceTable, receiverTable}
+use Rattle.road.specs.Judge.{outsideBy, unlessOutside, slowSurface, quietTruck, sourceVerdict, receiverVerdict, slotVerdict}
 
 -- ---- the first field outside its limits is refused, and none leaves the rest to be judged
 
-module _ (least most fields : List ℕ) (v : Verdict) (at : ℕ) (e : at ≡ firstOutside least most fields) where
-  pub outside : at < length fields → Refused (Field (2 + at)) ≡ unlessOutside least most fields v
+module _ {A : Type 0} (t : List (Row A)) (a : A) (v : Verdict) (at : ℕ) (e : at ≡ outsideBy t a) where
+  pub outside : at < length t → Refused (Field (numberBy t at)) ≡ unlessOutside t a v
   outside h =
-      let t : firstOutside least most fields < length fields = omega arith in
-      rw (lt-ltb (firstOutside least most fields) (length fields) t) (ap (λ (x : ℕ). Refused (Field (2 + x))) e)
+      let k : outsideBy t a < length t = omega arith in
+      rw (lt-ltb (outsideBy t a) (length t) k) (ap (λ (x : ℕ). Refused (Field (numberBy t x))) e)
 
-  pub inside : length fields ≤ at → v ≡ unlessOutside least most fields v
+  pub inside : length t ≤ at → v ≡ unlessOutside t a v
   inside h =
-      let t : length fields ≤ firstOutside least most fields = omega arith in
-      rw (le-ltb (firstOutside least most fields) (length fields) t) refl
+      let k : length t ≤ outsideBy t a = omega arith in
+      rw (le-ltb (outsideBy t a) (length t) k) refl
 
 -- ---- a slot that is allowed
 
@@ -51,20 +50,19 @@ either-by : (t : Bool) (v w : Verdict) → ByFields v → ByFields w → ByField
 either-by true v w m n = m
 either-by false v w m n = n
 
-outside-by : (least most fields : List ℕ) (v : Verdict) → ByFields v → ByFields (unlessOutside least most fields v)
-outside-by least most fields v n =
-    either-by (ltb (firstOutside least most fields) (length fields)) (Refused (Field (2 + firstOutside least most fields))) v (omega arith, omega arith) n
+outside-by : {A : Type 0} (t : List (Row A)) (a : A) (v : Verdict) → ByFields v → ByFields (unlessOutside t a v)
+outside-by t a v n = either-by (ltb (outsideBy t a) (length t)) (Refused (Field (numberBy t (outsideBy t a)))) v (omega arith, omega arith) n
 
 pub source-by : (s : Source) → ByFields (sourceVerdict s)
 unfolding sourceVerdict
 source-by s =
-    outside-by (sourceLeast s) (sourceMost s) (sourceFields s) _
+    outside-by sourceTable s _
     (either-by (slowSurface s) (Refused SlowSurface) _ (omega arith, omega arith)
     (either-by (quietTruck s) (Refused QuietTruck) Allowed (omega arith, omega arith) tt))
 
 pub receiver-by : (r : Receiver) → ByFields (receiverVerdict r)
 unfolding receiverVerdict
-receiver-by r = outside-by receiverLeast receiverMost (receiverFields r) Allowed tt
+receiver-by r = outside-by receiverTable r Allowed tt
 
 pub slot-by : (most i : ℕ) (v : Verdict) → ByFields v → ByFields (slotVerdict most i v)
 slot-by most i v n = either-by (leb i most) v (Refused (Field 1)) n (omega arith, omega arith)

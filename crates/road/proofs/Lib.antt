@@ -1,5 +1,6 @@
--- Laws of roads: bounds, what allowed fields tell, what callers may use of a pair; and the figures.
+-- Laws of roads: bounds, the tables of fields, what allowed fields tell, what callers may use of a pair; and the figures.
 pub mod Bounds
+pub mod Rows
 pub mod Fit
 pub mod Judged
 pub mod Sums

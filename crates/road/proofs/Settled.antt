@@ -36,8 +36,17 @@ walls-settled l a = settled _ _
 send-settled : SettlesResult proofs.emission.send.Reads.Post
 send-settled l a = settled _ _
 
-source-fields-settled : SettlesResult proofs.judge.source_fields.Reads.Post
-source-fields-settled l a = settled _ _
+source-values-settled : SettlesResult proofs.fields.source_values.Reads.Post
+source-values-settled l a = settled _ _
+
+receiver-values-settled : SettlesResult proofs.fields.receiver_values.Reads.Post
+receiver-values-settled l a = settled _ _
+
+source-of-settled : SettlesResult proofs.fields.source_of.Reads.Post
+source-of-settled l a = settled _ _
+
+receiver-of-settled : SettlesResult proofs.fields.receiver_of.Reads.Post
+receiver-of-settled l a = settled _ _
 
 judge-source-settled : SettlesResult proofs.judge.judge_source.Reads.Post
 judge-source-settled l a = settled _ _

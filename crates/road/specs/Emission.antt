@@ -69,9 +69,13 @@ surfaceTerm surface v = cond (leb surface 5) (adds (surfaceEntry surface v)) (ta
 
 -- ---- section 3.5.4: gradient
 
--- |g| in tenths of a percent: the sign is the field's top bit
+-- of a road that falls: the field's top bit
+abbrev pub sign : ℕ
+sign = 128
+
+-- |g| in tenths of a percent
 abbrev pub steepness : ℕ → ℕ
-steepness g = g % 128
+steepness g = g % sign
 
 unfoldable pub gradientTerm : ℕ → Term
 gradientTerm g = adds (cond (ltb 50 (steepness g)) (6 * steepness g - 300) 0)

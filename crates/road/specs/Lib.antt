@@ -1,6 +1,7 @@
 pub mod Term
 pub mod Emission
 pub mod Limits
+pub mod Fields
 pub mod Reach
 pub mod Pairs
 pub mod Judge

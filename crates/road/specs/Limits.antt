@@ -11,6 +11,10 @@ coordinate = 16777215
 abbrev pub longest : ℕ
 longest = 100000
 
+-- 0: one lane a direction; 1: several
+abbrev pub lastLanes : ℕ
+lastLanes = 1
+
 -- of cars and of trucks, as they are written: they are brought into range before they are used
 abbrev pub fastest : ℕ
 fastest = 250
@@ -24,6 +28,10 @@ lastSurface = length surfaceTable
 
 abbrev pub lastReflection : ℕ
 lastReflection = length reflectionTable - 1
+
+-- 0: none; 1: reflecting; 2: absorbing; 3: highly absorbing
+abbrev pub lastWalls : ℕ
+lastWalls = 3
 
 abbrev pub highestWall : ℕ
 highestWall = 4000

@@ -20,6 +20,9 @@ pub const SURFACES: usize = 9;
 
 pub const REFLECTIONS: usize = 5;
 
+// The gradient's sign, of a road that falls: the field's top bit.
+pub const SIGN: u8 = 128;
+
 // Table 3: hundredths of a dB by surface, for speeds below 40, from 40 on and from 50 on.
 const SURFACE: [[u32; 3]; SURFACES] = [
     [0, 0, 0],
@@ -155,7 +158,7 @@ fn surface(kind: u8, v: u64) -> Term
 pub fn gradient(g: u8) -> u32
     ensures { λ r. ⌜ r ≡ gradientTerm g .up ⌝ }
 {
-    let steep = (g % 128) as u32;
+    let steep = (g % SIGN) as u32;
     if 50 < steep {
         return 6 * steep - 300;
     }

@@ -1,6 +1,7 @@
 // Roads and the points where people live: which fields are allowed, and what a road gives out (VBUS sections 3.4, 3.5, 3.8).
 // Each term of the method is a definition of its own in specs/, those of the crate reach too; the code gives exactly their values.
 pub mod emission;
+pub mod fields;
 pub mod judge;
 pub mod limits;
 

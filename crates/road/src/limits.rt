@@ -7,17 +7,26 @@ pub const COORDINATE: u64 = 16777215;
 
 pub const LONGEST: u64 = 100000;
 
+// 0: one lane a direction; 1: several.
+pub const LAST_LANES: u64 = 1;
+
 // Of cars and of trucks, as they are written.
 pub const FASTEST: u64 = 250;
 
 // In tenths of a percent.
 pub const STEEPEST: u64 = 120;
 
-pub const STEEPEST_FALL: u64 = 128 + STEEPEST;
+// With the sign of a road that falls: there is no fall of nothing.
+pub const FLATTEST_FALL: u64 = emission::SIGN as u64 + 1;
+
+pub const STEEPEST_FALL: u64 = emission::SIGN as u64 + STEEPEST;
 
 pub const LAST_SURFACE: u64 = emission::SURFACES as u64;
 
 pub const LAST_REFLECTION: u64 = emission::REFLECTIONS as u64 - 1;
+
+// 0: none; 1: reflecting; 2: absorbing; 3: highly absorbing.
+pub const LAST_WALLS: u64 = 3;
 
 pub const HIGHEST_WALL: u64 = 4000;
 

@@ -1,22 +1,18 @@
 -- Sources and receivers are parties that the laws of slots hold for. Assumes nothing.
-use Prim.Native.Nat.{ℕ, zero, suc, _+_, _≤_}
+use Prim.Native.Nat.{ℕ, zero, suc, _+_}
 use mathlib.Core.Path.{_≡_, refl, sym, ap, _∙_}
-use mathlib.Core.Bool.{Bool, true, false, cond}
+use mathlib.Core.Bool.{true}
 use mathlib.Core.List.{List, [], _∷_}
 use native.Mathlib.Omega.{arith}
-use borrow.Author.Tests.{ltb-false}
-use lib.Dec.{ltb, eqb}
 use lib.ListN.{length, getD, drop}
 use lib.Seq.{drop-cons, drop-length}
 use Rattle.layout.specs.Layout.{Within}
-use Rattle.layout.specs.Bounds.{firstOutside, under}
-use Rattle.layout.proofs.Bounds.{both, none-outside, inside-within}
-use Rattle.answer.specs.declared.Refusal.the-variants.{Field, SlowSurface, QuietTruck}
+use Rattle.layout.proofs.Bounds.{both}
 use Rattle.road.specs.declared.Source.{Source}
 use Rattle.road.specs.declared.Verdict.{Verdict}
 use Rattle.road.specs.declared.Verdict.the-variants.{Allowed, Refused}
-use Rattle.road.specs.Judge.{sourceFields, sourceLeast, sourceMost, slowSurface, quietTruck, sourceVerdict, receiverVerdict}
-use Rattle.road.proofs.Fit.{passed, fit-receiver}
+use Rattle.road.specs.Judge.{sourceFields, sourceVerdict, receiverVerdict}
+use Rattle.road.proofs.Fit.{source-in-slot, fit-receiver}
 use Rattle.road.proofs.Periods.{periods-again}
 use Rattle.store.specs.declared.Held.{Held}
 use Rattle.store.specs.Account.{soundB}
@@ -47,23 +43,8 @@ allowed-is : (v : Verdict) → allowedB v ≡ true → v ≡ Allowed
 allowed-is Allowed e = refl
 allowed-is (Refused why) e = absurd (let z : _≡_ {A = ℕ} 0 1 = cc in omega arith)
 
--- the greatest values fit, whatever the gradient's sign and whether or not there are walls
-most-fits : (s : Source) (a b : Bool) → ltb (s .gradient) 128 ≡ a → eqb (s .walls) 0 ≡ b → under (sourceParty .widths) (sourceMost s) ≡ true
-most-fits s true true e f = simp (e, f)
-most-fits s true false e f = simp (e, f)
-most-fits s false true e f = simp (e, f)
-most-fits s false false e f = simp (e, f)
-
 pub source-fits : (s : Source) → sourceVerdict s ≡ Allowed → Within (partyLayout sourceParty) (1 ∷ sourceFields s)
-unfolding sourceVerdict
-source-fits s e =
-    let first = firstOutside (sourceLeast s) (sourceMost s) (sourceFields s) in
-    let v : Verdict = cond (slowSurface s) (Refused SlowSurface) (cond (quietTruck s) (Refused QuietTruck) Allowed) in
-    let n : 18 ≤ first = ltb-false first 18 (passed (ltb first 18) (Field (2 + first)) v e .0) in (
-      omega arith,
-      inside-within (sourceParty .widths) (sourceLeast s) (sourceMost s) (sourceFields s) (most-fits s (ltb (s .gradient) 128) (eqb (s .walls) 0) refl refl)
-          refl (none-outside (sourceLeast s) (sourceMost s) (sourceFields s) n),
-    )
+source-fits s e = (omega arith, source-in-slot s e)
 
 source-again : (s : Source) → length (s .traffic) ≡ 3 → sourceFrom (1 ∷ sourceFields s) ≡ s
 source-again s e = periods-again s e

@@ -147,7 +147,7 @@ pub(crate) fn any_torn(steps: &[u32; 1000], store: &[u8]) -> bool
 fn numbers_of(s: Source) -> [u64; 19]
     ensures { λ r. ⌜ r ≡ 1 ∷ sourceFields s ⌝ }
 {
-    let fields = road::judge::source_fields(s);
+    let fields = road::fields::source_values(s);
     let mut v = [1u64; 19];
     let mut i = 0;
     while i < 18 {

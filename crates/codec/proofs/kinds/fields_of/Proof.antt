@@ -40,8 +40,8 @@ join-requires-2 c κs = search needs
 enum-known-call-3 : tie.Need-enum-known-call-3
 enum-known-call-3 c = search needs
 
-source-fields-requires : tie.Need-source-fields-requires
-source-fields-requires c κs = search needs
+source-values-requires : tie.Need-source-values-requires
+source-values-requires c κs = search needs
 
 slice-aggregate-join-3 : tie.Need-slice-aggregate-join-3
 slice-aggregate-join-3 c = search needs
@@ -80,7 +80,7 @@ returns-2 c =
 returns-3 : tie.Need-returns-3
 returns-3 c =
     let a = c .before .before .before .before .before .before .args in
-    c .join3 .ensures ∙ ap (λ (l : List ℕ). filled (3 ∷ c .before .before .before .before .call3 .given .0 .0 ∷ l)) (c .before .before .source-fields .ensures) ∙ ap (λ (x : Request). filled (fieldsOf x (a .source))) (sym (c .before .before .before .before .call3 .given .1))
+    c .join3 .ensures ∙ ap (λ (l : List ℕ). filled (3 ∷ c .before .before .before .before .call3 .given .0 .0 ∷ l)) (c .before .before .source-values .ensures) ∙ ap (λ (x : Request). filled (fieldsOf x (a .source))) (sym (c .before .before .before .before .call3 .given .1))
 
 returns-4 : tie.Need-returns-4
 returns-4 c =
@@ -106,7 +106,7 @@ fields-of-spec =
     slice-aggregate-join-2
     join-requires-2
     enum-known-call-3
-    source-fields-requires
+    source-values-requires
     slice-aggregate-join-3
     join-requires-3
     enum-known-call-4

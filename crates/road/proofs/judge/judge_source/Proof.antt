@@ -7,12 +7,13 @@ use native.Mathlib.Omega.{arith}
 use lib.Dec.{leb}
 use borrow.Author.Tests.{leb-true, le-leb}
 use Rattle.layout.specs.Bounds.{firstOutside}
-use Rattle.answer.specs.declared.Refusal.the-variants.{SlowSurface, QuietTruck}
+use Rattle.answer.specs.declared.Refusal.the-variants.{Field, SlowSurface, QuietTruck}
 use Rattle.road.specs.declared.Source.{Source}
 use Rattle.road.specs.declared.Verdict.{Verdict}
 use Rattle.road.specs.declared.Verdict.the-variants.{Allowed, Refused}
 use Rattle.road.specs.Emission.{carSpeed}
-use Rattle.road.specs.Judge.{sourceFields, sourceLeast, sourceMost, slowSurface, quietTruck, sourceVerdict}
+use Rattle.road.specs.Fields.{sourceTable}
+use Rattle.road.specs.Judge.{outsideBy, slowSurface, quietTruck, sourceVerdict}
 use Rattle.road.proofs.Judged.{outside, inside}
 use borrow.Author.Needs.{needs}
 use Rattle.road.proofs.judge.judge_source.Statement.{statement}
@@ -39,8 +40,8 @@ tested k v n e = go (leb 5 k) (leb v n) refl refl e
 slow-at : (k v : ℕ) → 5 ≤ k → v ≤ 60 → (leb 5 k && leb v 60) ≡ true
 slow-at k v h l = rw (le-leb 5 k h, le-leb v 60 l)
 
-source-fields-requires : tie.Need-source-fields-requires
-source-fields-requires c κs = search needs
+source-values-requires : tie.Need-source-values-requires
+source-values-requires c κs = search needs
 
 source-least-requires : tie.Need-source-least-requires
 source-least-requires c κs = search needs
@@ -60,18 +61,18 @@ slice-aggregate-first-outside-3 c = search needs
 first-outside-requires : tie.Need-first-outside-requires
 first-outside-requires c κs = search needs
 
-outside-requires : tie.Need-outside-requires
-outside-requires c κs = search needs
+source-number-requires : tie.Need-source-number-requires
+source-number-requires c κs = search needs
 
 returns : tie.Need-returns
 unfolding sourceVerdict
 returns c =
     let s = c .before .before .before .before .before .before .before .before .before .args .s in
-    let e : c .before .before .first-outside .result ≡ firstOutside (sourceLeast s) (sourceMost s) (sourceFields s) =
+    let e : c .before .before .first-outside .result ≡ outsideBy sourceTable s =
     c .before .before .first-outside .ensures
-    ∙ (λ i. firstOutside (c .before .before .before .before .before .before .before .source-least .ensures i) (c .before .before .before .before .before .before .source-most .ensures i) (c .before .before .before .before .before .before .before .before .source-fields .ensures i)) in
-    c .outside .ensures
-    ∙ outside (sourceLeast s) (sourceMost s) (sourceFields s) (rest s) (c .before .before .first-outside .result) e (c .before .if1 .taken)
+    ∙ (λ i. firstOutside (c .before .before .before .before .before .before .before .source-least .ensures i) (c .before .before .before .before .before .before .source-most .ensures i) (c .before .before .before .before .before .before .before .before .source-values .ensures i)) in
+    ap (λ (n : ℕ). Refused (Field n)) (c .source-number .ensures)
+    ∙ outside sourceTable s (rest s) (c .before .before .first-outside .result) e (c .before .if1 .taken)
 
 cast-within : tie.Need-cast-within
 cast-within c = search needs
@@ -83,12 +84,12 @@ returns-2 : tie.Need-returns-2
 unfolding sourceVerdict
 returns-2 c =
     let s = c .before .before .before .before .before .before .before .before .before .before .before .before .args .s in
-    let e : c .before .before .before .before .before .first-outside .result ≡ firstOutside (sourceLeast s) (sourceMost s) (sourceFields s) =
+    let e : c .before .before .before .before .before .first-outside .result ≡ outsideBy sourceTable s =
     c .before .before .before .before .before .first-outside .ensures
-    ∙ (λ i. firstOutside (c .before .before .before .before .before .before .before .before .before .before .source-least .ensures i) (c .before .before .before .before .before .before .before .before .before .source-most .ensures i) (c .before .before .before .before .before .before .before .before .before .before .before .source-fields .ensures i)) in
+    ∙ (λ i. firstOutside (c .before .before .before .before .before .before .before .before .before .before .source-least .ensures i) (c .before .before .before .before .before .before .before .before .before .source-most .ensures i) (c .before .before .before .before .before .before .before .before .before .before .before .source-values .ensures i)) in
     let t = tested (s .surface) (c .before .within .result) _ (c .if2 .taken) in
     let slow : slowSurface s ≡ true = slow-at (s .surface) (carSpeed (s .car)) (t .0) (omega (arith, t .1, c .before .within .ensures)) in
-    choose s true (quietTruck s) slow refl ∙ inside (sourceLeast s) (sourceMost s) (sourceFields s) (rest s) (c .before .before .before .before .before .first-outside .result) e (c .before .before .before .before .if1 .left)
+    choose s true (quietTruck s) slow refl ∙ inside sourceTable s (rest s) (c .before .before .before .before .before .first-outside .result) e (c .before .before .before .before .if1 .left)
 
 quiet-truck-requires : tie.Need-quiet-truck-requires
 quiet-truck-requires c κs = search needs
@@ -97,36 +98,36 @@ returns-3 : tie.Need-returns-3
 unfolding sourceVerdict
 returns-3 c =
     let s = c .before .before .before .before .before .before .before .before .before .before .before .before .before .before .args .s in
-    let e : c .before .before .before .before .before .before .before .first-outside .result ≡ firstOutside (sourceLeast s) (sourceMost s) (sourceFields s) =
+    let e : c .before .before .before .before .before .before .before .first-outside .result ≡ outsideBy sourceTable s =
     c .before .before .before .before .before .before .before .first-outside .ensures
-    ∙ (λ i. firstOutside (c .before .before .before .before .before .before .before .before .before .before .before .before .source-least .ensures i) (c .before .before .before .before .before .before .before .before .before .before .before .source-most .ensures i) (c .before .before .before .before .before .before .before .before .before .before .before .before .before .source-fields .ensures i)) in
+    ∙ (λ i. firstOutside (c .before .before .before .before .before .before .before .before .before .before .before .before .source-least .ensures i) (c .before .before .before .before .before .before .before .before .before .before .before .source-most .ensures i) (c .before .before .before .before .before .before .before .before .before .before .before .before .before .source-values .ensures i)) in
     let slow : slowSurface s ≡ false = ap (λ (x : ℕ). leb 5 (s .surface) && leb x 60) (sym (c .before .before .before .within .ensures)) ∙ c .before .before .if2 .left in
     let quiet : quietTruck s ≡ true = sym (c .before .quiet-truck .ensures) ∙ c .if3 .taken in
-    choose s false true slow quiet ∙ inside (sourceLeast s) (sourceMost s) (sourceFields s) (rest s) (c .before .before .before .before .before .before .before .first-outside .result) e (c .before .before .before .before .before .before .if1 .left)
+    choose s false true slow quiet ∙ inside sourceTable s (rest s) (c .before .before .before .before .before .before .before .first-outside .result) e (c .before .before .before .before .before .before .if1 .left)
 
 returns-4 : tie.Need-returns-4
 unfolding sourceVerdict
 returns-4 c =
     let s = c .before .before .before .before .before .before .before .before .before .before .before .before .before .before .args .s in
-    let e : c .before .before .before .before .before .before .before .first-outside .result ≡ firstOutside (sourceLeast s) (sourceMost s) (sourceFields s) =
+    let e : c .before .before .before .before .before .before .before .first-outside .result ≡ outsideBy sourceTable s =
     c .before .before .before .before .before .before .before .first-outside .ensures
-    ∙ (λ i. firstOutside (c .before .before .before .before .before .before .before .before .before .before .before .before .source-least .ensures i) (c .before .before .before .before .before .before .before .before .before .before .before .source-most .ensures i) (c .before .before .before .before .before .before .before .before .before .before .before .before .before .source-fields .ensures i)) in
+    ∙ (λ i. firstOutside (c .before .before .before .before .before .before .before .before .before .before .before .before .source-least .ensures i) (c .before .before .before .before .before .before .before .before .before .before .before .source-most .ensures i) (c .before .before .before .before .before .before .before .before .before .before .before .before .before .source-values .ensures i)) in
     let slow : slowSurface s ≡ false = ap (λ (x : ℕ). leb 5 (s .surface) && leb x 60) (sym (c .before .before .before .within .ensures)) ∙ c .before .before .if2 .left in
     let quiet : quietTruck s ≡ false = sym (c .before .quiet-truck .ensures) ∙ c .if3 .left in
-    choose s false false slow quiet ∙ inside (sourceLeast s) (sourceMost s) (sourceFields s) (rest s) (c .before .before .before .before .before .before .before .first-outside .result) e (c .before .before .before .before .before .before .if1 .left)
+    choose s false false slow quiet ∙ inside sourceTable s (rest s) (c .before .before .before .before .before .before .before .first-outside .result) e (c .before .before .before .before .before .before .if1 .left)
 
 pub judge-source-spec : {M : Type 1} → statement M
 judge-source-spec =
     tie.close
     (tie.spec
-    source-fields-requires
+    source-values-requires
     source-least-requires
     source-most-requires
     slice-aggregate-first-outside
     slice-aggregate-first-outside-2
     slice-aggregate-first-outside-3
     first-outside-requires
-    outside-requires
+    source-number-requires
     returns
     cast-within
     within-requires

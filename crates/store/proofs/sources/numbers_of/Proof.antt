@@ -26,8 +26,8 @@ Inv-loop fields v₀ i₀ v i = (i ≤ 18) × (length v ≡ 19) × (take (suc i)
 abbrev μ-loop : tie.MeasureT-loop
 μ-loop fields v₀ i₀ v i = 18 - i
 
-source-fields-requires : tie.Need-source-fields-requires Inv-loop μ-loop
-source-fields-requires c κs = search needs
+source-values-requires : tie.Need-source-values-requires Inv-loop μ-loop
+source-values-requires c κs = search needs
 
 loop-holds : tie.Need-loop-holds Inv-loop μ-loop
 loop-holds c = (omega arith, refl, refl)
@@ -56,7 +56,7 @@ loop-less c = search needs
 loop-again : tie.Need-loop-again Inv-loop μ-loop
 loop-again c =
     let l = c .before in
-    let f = l .before .source-fields in
+    let f = l .before .source-values in
     let v = l .loop .v in
     let i = l .loop .i in (
       omega arith,
@@ -67,7 +67,7 @@ loop-again c =
 returns : tie.Need-returns Inv-loop μ-loop
 returns c =
     let l = c .before in
-    let f = l .before .source-fields in
+    let f = l .before .source-values in
     all (l .loop .v) (f .result) (l .loop .i) (omega arith) (omega (arith, ap length (f .ensures))) (l .loop .inv .2) ∙ ap (λ (t : List ℕ). 1 ∷ t) (f .ensures)
 
 pub numbers-of-spec : {M : Type 1} → statement M
@@ -76,7 +76,7 @@ numbers-of-spec =
     (tie.spec
     Inv-loop
     μ-loop
-    source-fields-requires
+    source-values-requires
     loop-holds
     mul-v
     array-read-v

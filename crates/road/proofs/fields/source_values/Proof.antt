@@ -1,9 +1,9 @@
--- `source_fields` gives the fields in their order; each fits the wider number.
+-- `source_values` gives the values in the order of the table; each fits the wider number.
 -- Assumes nothing.
 use native.Mathlib.Omega.{arith}
 use borrow.Author.Needs.{needs}
-use Rattle.road.proofs.judge.source_fields.Statement.{statement}
-use Rattle.road.proofs.judge.source_fields.Tie as tie
+use Rattle.road.proofs.fields.source_values.Statement.{statement}
+use Rattle.road.proofs.fields.source_values.Tie as tie
 
 array-copy-out-day : tie.Need-array-copy-out-day
 array-copy-out-day c = search needs
@@ -71,8 +71,8 @@ cast-t30 c = search needs
 returns : tie.Need-returns
 returns c = search needs
 
-pub source-fields-spec : {M : Type 1} → statement M
-source-fields-spec =
+pub source-values-spec : {M : Type 1} → statement M
+source-values-spec =
     tie.close
     (tie.spec
     array-copy-out-day

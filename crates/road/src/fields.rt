@@ -1,0 +1,300 @@
+// The fields of a source and of a receiver, a row for each, as in specs/Fields.antt: what records, slots and verdicts are made from.
+// Values are numbers of 64 bits in the order of the rows.
+use crate::Receiver;
+use crate::Source;
+use crate::Traffic;
+use crate::emission;
+use crate::limits;
+ghost use mathlib.Core.Path.{_≡_};
+ghost use mathlib.Core.Bool.{cond};
+ghost use mathlib.Core.List.{[]};
+ghost use Prim.Native.Nat.{_+_, _≤_, _<_};
+ghost use lib.ListN.{length, drop};
+ghost use Rattle.road.specs.Fields.{sourceTable, receiverTable, sourceOf, receiverOf, valuesBy, leastBy, mostBy, slotBitsBy, numberBy, rowsBy, plain, Fit};
+
+// The columns of a row: the field's number, its bits in a record, its bytes in a slot, the least and the most that it may be.
+const NUMBER: usize = 0;
+
+pub const BITS: usize = 1;
+
+pub const BYTES: usize = 2;
+
+const LEAST: usize = 3;
+
+const MOST: usize = 4;
+
+// The rows of a source. The limits of the gradient are for a road that rises, those of height and spacing for walls that are there.
+pub const SOURCE: [[u64; 5]; 18] = [
+    // x, y, length, lanes
+    [2, 24, 3, 0, limits::COORDINATE],
+    [3, 24, 3, 0, limits::COORDINATE],
+    [4, 17, 3, 1, limits::LONGEST],
+    [5, 1, 1, 0, limits::LAST_LANES],
+    // cars, trucks, surface, gradient, reflection
+    [6, 8, 1, 1, limits::FASTEST],
+    [7, 8, 1, 1, limits::FASTEST],
+    [8, 4, 1, 1, limits::LAST_SURFACE],
+    [9, 8, 1, 0, limits::STEEPEST],
+    [10, 3, 1, 0, limits::LAST_REFLECTION],
+    // walls, their height, their spacing
+    [11, 2, 1, 0, limits::LAST_WALLS],
+    [12, 12, 2, 1, limits::HIGHEST_WALL],
+    [13, 14, 2, 1, limits::WIDEST_SPACING],
+    // M and p by day, in the evening, at night
+    [14, 24, 3, 0, limits::MOST_VEHICLES],
+    [15, 10, 2, 0, limits::ALL_TRUCKS],
+    [16, 24, 3, 0, limits::MOST_VEHICLES],
+    [17, 10, 2, 0, limits::ALL_TRUCKS],
+    [18, 24, 3, 0, limits::MOST_VEHICLES],
+    [19, 10, 2, 0, limits::ALL_TRUCKS],
+];
+
+// The rows of a receiver.
+pub const RECEIVER: [[u64; 5]; 3] = [
+    // x, y, height
+    [2, 24, 3, 0, limits::COORDINATE],
+    [3, 24, 3, 0, limits::COORDINATE],
+    [4, 9, 2, limits::LOWEST_RECEIVER, limits::HIGHEST_RECEIVER],
+];
+
+// The two columns of limits, of a receiver and of a source.
+pub(crate) const RECEIVER_LEAST: [u64; 3] = [
+    RECEIVER[0][LEAST],
+    RECEIVER[1][LEAST],
+    RECEIVER[2][LEAST],
+];
+
+pub(crate) const RECEIVER_MOST: [u64; 3] = [
+    RECEIVER[0][MOST],
+    RECEIVER[1][MOST],
+    RECEIVER[2][MOST],
+];
+
+const SOURCE_LEAST: [u64; 18] = [
+    SOURCE[0][LEAST],
+    SOURCE[1][LEAST],
+    SOURCE[2][LEAST],
+    SOURCE[3][LEAST],
+    SOURCE[4][LEAST],
+    SOURCE[5][LEAST],
+    SOURCE[6][LEAST],
+    SOURCE[7][LEAST],
+    SOURCE[8][LEAST],
+    SOURCE[9][LEAST],
+    SOURCE[10][LEAST],
+    SOURCE[11][LEAST],
+    SOURCE[12][LEAST],
+    SOURCE[13][LEAST],
+    SOURCE[14][LEAST],
+    SOURCE[15][LEAST],
+    SOURCE[16][LEAST],
+    SOURCE[17][LEAST],
+];
+
+const SOURCE_MOST: [u64; 18] = [
+    SOURCE[0][MOST],
+    SOURCE[1][MOST],
+    SOURCE[2][MOST],
+    SOURCE[3][MOST],
+    SOURCE[4][MOST],
+    SOURCE[5][MOST],
+    SOURCE[6][MOST],
+    SOURCE[7][MOST],
+    SOURCE[8][MOST],
+    SOURCE[9][MOST],
+    SOURCE[10][MOST],
+    SOURCE[11][MOST],
+    SOURCE[12][MOST],
+    SOURCE[13][MOST],
+    SOURCE[14][MOST],
+    SOURCE[15][MOST],
+    SOURCE[16][MOST],
+    SOURCE[17][MOST],
+];
+
+// The rows whose limits depend on a field before them.
+const GRADIENT: usize = 7;
+
+const HEIGHT: usize = 10;
+
+const SPACING: usize = 11;
+
+// The rows of a source, with the limits of a road that rises between walls.
+fn source_rows() -> [[u64; 5]; 18]
+    ensures { λ r. ⌜ r ≡ rowsBy sourceTable plain ⌝ }
+{
+    SOURCE
+}
+
+// The rows of a receiver.
+fn receiver_rows() -> [[u64; 5]; 3]
+    ensures { λ r. ⌜ r ≡ rowsBy receiverTable (receiverOf []) ⌝ }
+{
+    RECEIVER
+}
+
+// The number of the field in row i of a source.
+pub(crate) fn source_number(i: usize) -> u16
+    requires { ⌜ i < 18 ⌝ }
+    ensures { λ r. ⌜ r ≡ numberBy sourceTable i ⌝ }
+{
+    let rows = source_rows();
+    let row = rows[i];
+    row[NUMBER] as u16
+}
+
+// And of a receiver.
+pub(crate) fn receiver_number(i: usize) -> u16
+    requires { ⌜ i < 3 ⌝ }
+    ensures { λ r. ⌜ r ≡ numberBy receiverTable i ⌝ }
+{
+    let rows = receiver_rows();
+    let row = rows[i];
+    row[NUMBER] as u16
+}
+
+// The values of a source.
+pub fn source_values(s: Source) -> [u64; 18]
+    ensures { λ r. ⌜ r ≡ valuesBy sourceTable s ⌝ }
+{
+    let traffic = s.traffic;
+    let day = traffic[0];
+    let evening = traffic[1];
+    let night = traffic[2];
+    [
+        s.x as u64,
+        s.y as u64,
+        s.length as u64,
+        s.lanes as u64,
+        s.car as u64,
+        s.truck as u64,
+        s.surface as u64,
+        s.gradient as u64,
+        s.reflection as u64,
+        s.walls as u64,
+        s.height as u64,
+        s.spacing as u64,
+        day.m as u64,
+        day.p as u64,
+        evening.m as u64,
+        evening.p as u64,
+        night.m as u64,
+        night.p as u64,
+    ]
+}
+
+// The values of a receiver.
+pub fn receiver_values(r: Receiver) -> [u64; 3]
+    ensures { λ v. ⌜ v ≡ valuesBy receiverTable r ⌝ }
+{
+    [r.x as u64, r.y as u64, r.height as u64]
+}
+
+// The source of the values at the front of v.
+fn source_by(v: &[u64]) -> Source
+    requires { ⌜ (18 ≤ length (now v)) × Fit (slotBitsBy sourceTable) 0 (now v) ⌝ }
+    ensures { λ r. ⌜ r ≡ sourceOf (now (v .entry)) ⌝ }
+{
+    let day = Traffic {
+        m: v[12] as u32,
+        p: v[13] as u16,
+    };
+    let evening = Traffic {
+        m: v[14] as u32,
+        p: v[15] as u16,
+    };
+    let night = Traffic {
+        m: v[16] as u32,
+        p: v[17] as u16,
+    };
+    let traffic = [day, evening, night];
+    Source {
+        x: v[0] as u32,
+        y: v[1] as u32,
+        length: v[2] as u32,
+        lanes: v[3] as u8,
+        car: v[4] as u8,
+        truck: v[5] as u8,
+        surface: v[6] as u8,
+        gradient: v[7] as u8,
+        reflection: v[8] as u8,
+        walls: v[9] as u8,
+        height: v[10] as u16,
+        spacing: v[11] as u16,
+        traffic,
+    }
+}
+
+// The source of the values from index at on.
+pub fn source_of(v: &[u64], at: usize) -> Source
+    requires { ⌜ (at + 18 ≤ length (now v)) × Fit (slotBitsBy sourceTable) at (now v) ⌝ }
+    ensures { λ r. ⌜ r ≡ sourceOf (drop at (now (v .entry))) ⌝ }
+{
+    source_by(&v[at..])
+}
+
+// The receiver of the values at the front of v.
+fn receiver_by(v: &[u64]) -> Receiver
+    requires { ⌜ (3 ≤ length (now v)) × Fit (slotBitsBy receiverTable) 0 (now v) ⌝ }
+    ensures { λ r. ⌜ r ≡ receiverOf (now (v .entry)) ⌝ }
+{
+    Receiver {
+        x: v[0] as u32,
+        y: v[1] as u32,
+        height: v[2] as u16,
+    }
+}
+
+// The receiver of the values from index at on.
+pub fn receiver_of(v: &[u64], at: usize) -> Receiver
+    requires { ⌜ (at + 3 ≤ length (now v)) × Fit (slotBitsBy receiverTable) at (now v) ⌝ }
+    ensures { λ r. ⌜ r ≡ receiverOf (drop at (now (v .entry))) ⌝ }
+{
+    receiver_by(&v[at..])
+}
+
+// One of two numbers.
+fn either(first: bool, a: u64, b: u64) -> u64
+    ensures { λ r. ⌜ r ≡ cond first a b ⌝ }
+{
+    if first {
+        return a;
+    }
+    b
+}
+
+// The least that each field of a source may be.
+pub(crate) fn source_least(s: Source) -> [u64; 18]
+    ensures { λ r. ⌜ r ≡ leastBy sourceTable s ⌝ }
+{
+    let gradient = either(
+        s.gradient < emission::SIGN,
+        SOURCE_LEAST[GRADIENT],
+        limits::FLATTEST_FALL,
+    );
+    let height = either(s.walls == 0, 0, SOURCE_LEAST[HEIGHT]);
+    let spacing = either(s.walls == 0, 0, SOURCE_LEAST[SPACING]);
+    let mut least = SOURCE_LEAST;
+    least[GRADIENT] = gradient;
+    least[HEIGHT] = height;
+    least[SPACING] = spacing;
+    least
+}
+
+// The most.
+pub(crate) fn source_most(s: Source) -> [u64; 18]
+    ensures { λ r. ⌜ r ≡ mostBy sourceTable s ⌝ }
+{
+    let gradient = either(
+        s.gradient < emission::SIGN,
+        SOURCE_MOST[GRADIENT],
+        limits::STEEPEST_FALL,
+    );
+    let height = either(s.walls == 0, 0, SOURCE_MOST[HEIGHT]);
+    let spacing = either(s.walls == 0, 0, SOURCE_MOST[SPACING]);
+    let mut most = SOURCE_MOST;
+    most[GRADIENT] = gradient;
+    most[HEIGHT] = height;
+    most[SPACING] = spacing;
+    most
+}
