@@ -15,12 +15,20 @@ ghost use Rattle.level.specs.Table.{table};
 ghost use Rattle.road.specs.declared.Verdict.the-variants.{Allowed};
 ghost use Rattle.road.specs.Term.{_⊕_};
 ghost use Rattle.road.specs.Limits.{coordinate};
-ghost use Rattle.road.specs.Reach.{sourceHeight, apart, square, planSquare, distanceTerm, groundTerm, weatherTerm, pairOf};
+ghost use Rattle.road.specs.Reach.{sourceHeight, apart, square, planSquare, distanceTerm, groundTerm, weatherTerm, pairOf, farthest};
 ghost use Rattle.road.specs.Judge.{sourceVerdict, receiverVerdict};
 ghost use Rattle.road.specs.Inner.{sentOf, voicedPart, hearOf, Modest, Moderate};
 
 // How high above the road the source is, in cm.
 const SOURCE_HEIGHT: u16 = 50;
+
+// How near and how far a pair may be, as squares: 5 m and 2 km.
+const NEAREST: u64 = 500 * 500;
+
+const FARTHEST: u64 = 200000 * 200000;
+
+// How loud, in hundredths of a dB.
+const LOUDEST: u32 = 9000;
 
 // How far two numbers are apart.
 fn apart(a: u32, b: u32) -> u64
@@ -70,7 +78,7 @@ pub fn ground(h: u64, r: u64) -> u32
 
 // Equations 10 to 12: distance, air and ground, by the squared distance and its root.
 pub fn way(steps: &[u32; 1000], q: u64, r: u64, h: u64) -> Term
-    requires { ⌜ (now steps ≡ table) × (1 ≤ q) × (q ≤ 40000000000) × (h ≤ 1000) × (1 ≤ r) × (r ≤ 1000000) ⌝ }
+    requires { ⌜ (now steps ≡ table) × (1 ≤ q) × (q ≤ farthest) × (h ≤ 1000) × (1 ≤ r) × (r ≤ 1000000) ⌝ }
     ensures { λ t. ⌜ t ≡ distanceTerm q r ⊕ groundTerm h r ⌝ }
 {
     let down = level::lv(steps, q) + (r / 200) as u32 + ground(h, r);
@@ -113,7 +121,7 @@ fn share(steps: &[u32; 1000], v: Voice, way: Term, c: u64, h: u64, near: u64) ->
             energy: 0,
         };
     }
-    if 9000 < up - down {
+    if LOUDEST < up - down {
         return Part {
             loud: true,
             energy: 0,
@@ -128,7 +136,7 @@ fn share(steps: &[u32; 1000], v: Voice, way: Term, c: u64, h: u64, near: u64) ->
 
 // The three shares of a piece of road by its length's term and squared distances that are in range, or too loud.
 fn hear(steps: &[u32; 1000], voices: [Voice; 3], length: Term, q0: u64, q: u64, h: u64) -> Pair
-    requires { ⌜ (now steps ≡ table) × Moderate voices × (1 ≤ q0) × (q0 ≤ q) × (q ≤ 40000000000) × (h ≤ 1000) ⌝ }
+    requires { ⌜ (now steps ≡ table) × Moderate voices × (1 ≤ q0) × (q0 ≤ q) × (q ≤ farthest) × (h ≤ 1000) ⌝ }
     requires { ⌜ (length .up ≤ 20000) × (length .down ≤ 20000) ⌝ }
     ensures { λ p. ⌜ p ≡ hearOf voices length q0 q h ⌝ }
 {
@@ -158,10 +166,10 @@ pub fn pair(steps: &[u32; 1000], s: Source, sent: Sent, r: Receiver) -> Pair
 {
     let q0 = plan(s, r);
     let q = space(q0, r.height);
-    if q < 250000 {
+    if q < NEAREST {
         return Pair::Barred(Bar::Near);
     }
-    if 40000000000 < q {
+    if FARTHEST < q {
         return Pair::Barred(Bar::Far);
     }
     let long = s.length as u64;

@@ -18,7 +18,7 @@ use Rattle.road.specs.declared.Verdict.the-variants.{Allowed}
 use Rattle.road.specs.Judge.{sourceVerdict, receiverVerdict}
 use Rattle.root.specs.Root.{rootOf, rooted}
 use Rattle.road.specs.Emission.{trafficTerm, carLevel, truckLevel, speedTerm, surfaceTerm, gradientTerm, reflectionTerm}
-use Rattle.road.specs.Reach.{planSquare, spaceSquare, lengthTerm, distanceTerm, groundTerm, wallsTerm, weatherTerm, shareLevel, energyShare, tooLoud, shareOf, loudIn, sharesOf, pairOf}
+use Rattle.road.specs.Reach.{planSquare, spaceSquare, lengthTerm, distanceTerm, groundTerm, wallsTerm, weatherTerm, shareLevel, energyShare, tooLoud, shareOf, loudIn, sharesOf, pairOf, loudest}
 use Rattle.road.specs.Figures.{road, home, roads, figures}
 use Rattle.road.proofs.Pairs.{pair-heard}
 
@@ -65,8 +65,8 @@ energy : (t : Term) (n : ℕ) → above t ≡ suc n → energyShare t ≡ energy
 unfolding energyShare
 energy t n e = rw (le-ltb (t .up) (t .down) (omega arith), e)
 
-soft : (t : Term) (n : ℕ) → above t ≡ n → n ≤ 9000 → tooLoud t ≡ false
-soft t n e h = le-ltb 9000 (above t) (omega arith)
+soft : (t : Term) (n : ℕ) → above t ≡ n → n ≤ loudest → tooLoud t ≡ false
+soft t n e h = le-ltb loudest (above t) (omega arith)
 
 pub near-allowed : sourceVerdict (road 102500) ≡ Allowed
 unfolding sourceVerdict carLevel truckLevel levelOf upTo decades table firstQuarter secondQuarter thirdQuarter fourthQuarter

@@ -24,7 +24,7 @@ use Rattle.road.specs.declared.Pair.the-variants.{Heard, Barred}
 use Rattle.road.specs.declared.Part.{Part}
 use Rattle.road.specs.Term.{_⊕_, period}
 use Rattle.road.specs.Emission.{emissionLevel}
-use Rattle.road.specs.Reach.{square, planSquare, spaceSquare, lengthTerm, distanceTerm, groundTerm, wallsTerm, weatherTerm, rayHeight, shareLevel, energyShare, tooLoud, shareOf, loudIn, sharesOf, pairOf}
+use Rattle.road.specs.Reach.{square, planSquare, spaceSquare, lengthTerm, distanceTerm, groundTerm, wallsTerm, weatherTerm, rayHeight, shareLevel, energyShare, tooLoud, shareOf, loudIn, sharesOf, pairOf, nearest, farthest, loudest}
 use Rattle.road.specs.Pairs.{Pairing, mostShare, shareIn, Bounded}
 use Rattle.road.specs.Limits.{longest}
 use Rattle.road.specs.Inner.{silent, voiceOf, voicesOf, voicedPart, wayOf, pairBy, hearOf}
@@ -37,7 +37,7 @@ pub ground-most : (h r : ℕ) → groundTerm h r .down ≤ 480
 unfolding groundTerm
 ground-most h r = sub-le 480 _
 
-pub small-way : (q r h : ℕ) → 1 ≤ q → q ≤ 40000000000 → r ≤ 1000000 → Small 50000 (distanceTerm q r ⊕ groundTerm h r)
+pub small-way : (q r h : ℕ) → 1 ≤ q → q ≤ farthest → r ≤ 1000000 → Small 50000 (distanceTerm q r ⊕ groundTerm h r)
 unfolding distanceTerm groundTerm
 small-way q r h a b d = record {
   up = omega arith;
@@ -60,7 +60,7 @@ pub record Reached (r : ℕ) : Type 0 where
   pub some : 1 ≤ r
   pub most : r ≤ 1000000
 
-pub reached : (q r : ℕ) → 1 ≤ q → q ≤ 40000000000 → (r * r ≤ q) × (q < (r + 1) * (r + 1)) → Reached r
+pub reached : (q r : ℕ) → 1 ≤ q → q ≤ farthest → (r * r ≤ q) × (q < (r + 1) * (r + 1)) → Reached r
 reached q zero a b e = absurd (omega (arith, e .1))
 reached q (suc r) a b e = record { some = omega arith; most = go (decLe (suc r) 1000000) }
   where
@@ -133,28 +133,28 @@ hear-is s r =
 -- ---- the pair's answer, case by case
 
 module _ (s : Source) (r : Receiver) where
-  pub pair-near : spaceSquare s r < 250000 → pairOf s r ≡ Barred Near
+  pub pair-near : spaceSquare s r < nearest → pairOf s r ≡ Barred Near
   unfolding pairOf
-  pair-near h = rw (lt-ltb (spaceSquare s r) 250000 h, pairOf)
+  pair-near h = rw (lt-ltb (spaceSquare s r) nearest h, pairOf)
 
-  pub pair-far : 40000000000 < spaceSquare s r → pairOf s r ≡ Barred Far
+  pub pair-far : farthest < spaceSquare s r → pairOf s r ≡ Barred Far
   unfolding pairOf
-  pair-far h = rw (le-ltb (spaceSquare s r) 250000 (omega arith), lt-ltb 40000000000 (spaceSquare s r) h, pairOf)
+  pair-far h = rw (le-ltb (spaceSquare s r) nearest (omega arith), lt-ltb farthest (spaceSquare s r) h, pairOf)
 
   -- a pair that is too far is neither too near nor, with a length that is allowed, too long: between these rows no order shows
-  pub far-alone : s .length ≤ longest → 40000000000 < spaceSquare s r → (250000 ≤ spaceSquare s r) × (4 * square (s .length) ≤ spaceSquare s r)
+  pub far-alone : s .length ≤ longest → farthest < spaceSquare s r → (nearest ≤ spaceSquare s r) × (4 * square (s .length) ≤ spaceSquare s r)
   far-alone l h = (omega arith, omega (arith, times (s .length) (s .length) longest longest l l))
 
-  pub pair-long : 250000 ≤ spaceSquare s r → spaceSquare s r ≤ 40000000000 → spaceSquare s r < 4 * square (s .length) → pairOf s r ≡ Barred Long
+  pub pair-long : nearest ≤ spaceSquare s r → spaceSquare s r ≤ farthest → spaceSquare s r < 4 * square (s .length) → pairOf s r ≡ Barred Long
   unfolding pairOf
   pair-long a b h =
-      rw (le-ltb (spaceSquare s r) 250000 a, le-ltb 40000000000 (spaceSquare s r) b, lt-ltb (spaceSquare s r) (4 * square (s .length)) h, pairOf)
+      rw (le-ltb (spaceSquare s r) nearest a, le-ltb farthest (spaceSquare s r) b, lt-ltb (spaceSquare s r) (4 * square (s .length)) h, pairOf)
 
-  pub pair-within : 250000 ≤ spaceSquare s r → spaceSquare s r ≤ 40000000000 → 4 * square (s .length) ≤ spaceSquare s r
+  pub pair-within : nearest ≤ spaceSquare s r → spaceSquare s r ≤ farthest → 4 * square (s .length) ≤ spaceSquare s r
       → pairOf s r ≡ hearOf (voicesOf s) (lengthTerm (s .length)) (planSquare s r) (spaceSquare s r) (rayHeight r)
   unfolding pairOf
   pair-within a b h =
-      rw (le-ltb (spaceSquare s r) 250000 a, le-ltb 40000000000 (spaceSquare s r) b, le-ltb (spaceSquare s r) (4 * square (s .length)) h, pairOf)
+      rw (le-ltb (spaceSquare s r) nearest a, le-ltb farthest (spaceSquare s r) b, le-ltb (spaceSquare s r) (4 * square (s .length)) h, pairOf)
       (sym (hear-is s r))
 
 -- ---- an accepted share
@@ -166,16 +166,16 @@ share-most s r i = go (eqb (period s i .m) 0)
     t : Term
     t = shareLevel s r i
 
-    top : energyOf 9000 ≡ 1000000 * 10 ^ 9
+    top : energyOf loudest ≡ 1000000 * 10 ^ 9
     top = energy-decade 9
 
-    heard : t .up - t .down ≤ 9000 → (b : Bool) → cond b 0 (energyOf (t .up - t .down)) ≤ 1000000000000000
+    heard : t .up - t .down ≤ loudest → (b : Bool) → cond b 0 (energyOf (t .up - t .down)) ≤ 1000000000000000
     heard h true = omega arith
-    heard h false = omega (arith, top, energy-rises (t .up - t .down) 9000 h)
+    heard h false = omega (arith, top, energy-rises (t .up - t .down) loudest h)
 
     go : (b : Bool) → cond b false (tooLoud t) ≡ false → cond b 0 (cond (ltb (t .up) (t .down)) 0 (energyOf (t .up - t .down))) ≤ 1000000000000000
     go true e = omega arith
-    go false e = heard (ltb-false 9000 (t .up - t .down) e) (ltb (t .up) (t .down))
+    go false e = heard (ltb-false loudest (t .up - t .down) e) (ltb (t .up) (t .down))
 
 or-false : (a b : Bool) → (a || b) ≡ false → (a ≡ false) × (b ≡ false)
 or-false true b e = absurd (let z : _≡_ {A = ℕ} 0 1 = cc in omega arith)
@@ -211,8 +211,8 @@ unless-barred false b p i n f = f refl
 pub pair-bounded : Bounded pairOf
 unfolding pairOf
 pair-bounded s r i =
-    unless-barred (ltb (spaceSquare s r) 250000) Near _ i (nothing-brought s r Near i) λ near.
-    unless-barred (ltb 40000000000 (spaceSquare s r)) Far _ i (nothing-brought s r Far i) λ far.
+    unless-barred (ltb (spaceSquare s r) nearest) Near _ i (nothing-brought s r Near i) λ near.
+    unless-barred (ltb farthest (spaceSquare s r)) Far _ i (nothing-brought s r Far i) λ far.
     unless-barred (ltb (spaceSquare s r) (4 * square (s .length))) Long _ i (nothing-brought s r Long i) λ long.
     unless-barred (loudIn s r 0 || loudIn s r 1 || loudIn s r 2) Loud _ i (nothing-brought s r Loud i) λ quiet.
     no-loud s r quiet i
@@ -221,6 +221,6 @@ pub heard-most : (pair : Pairing) → Bounded pair → (s : Source) (r : Receive
 heard-most pair bounded s r h e i = subst (λ (p : Pair). shareIn p i ≤ mostShare) e (bounded s r i)
 
 -- the case of a pair that is in reach and nowhere loud
-pub pair-heard : (s : Source) (r : Receiver) → 250000 ≤ spaceSquare s r → spaceSquare s r ≤ 40000000000 → 4 * square (s .length) ≤ spaceSquare s r
+pub pair-heard : (s : Source) (r : Receiver) → nearest ≤ spaceSquare s r → spaceSquare s r ≤ farthest → 4 * square (s .length) ≤ spaceSquare s r
     → (loudIn s r 0 || loudIn s r 1 || loudIn s r 2) ≡ false → pairOf s r ≡ Heard (sharesOf s r)
 pair-heard s r a b h e = pair-within s r a b h ∙ hear-is s r ∙ ap (λ (t : Bool). cond t (Barred Loud) (Heard (sharesOf s r))) e

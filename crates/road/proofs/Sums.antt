@@ -18,7 +18,7 @@ use Rattle.road.specs.declared.Voice.{Voice}
 use Rattle.road.specs.declared.emission.Pace.{Pace}
 use Rattle.road.specs.Term.{_⊕_, period}
 use Rattle.road.specs.Emission.{vehicles, trafficTerm, carSpeed, truckSpeed, truckGain, speedTerm, surfaceTable, surfaceColumn, surfaceEntry, surfaceTerm, gradientTerm, reflectionTable, reflectionTerm}
-use Rattle.road.specs.Reach.{lengthTerm, wallsTerm, energyShare}
+use Rattle.road.specs.Reach.{lengthTerm, wallsTerm, energyShare, loudest}
 use Rattle.road.specs.Limits.{longest, mostVehicles, allTrucks}
 use Rattle.road.specs.Inner.{paceOf, speedBy, steadyTerm, silent, voiceBy, voiceOf, voicesOf, voicedPart, Modest, Moderate}
 use Rattle.road.proofs.Bounds.{times, lv-small, car-most, gain-small, gain-energy}
@@ -204,15 +204,15 @@ module _ (v : Voice) (t : Term) (u d : ℕ) (e : v .sounds ≡ true) (up : u ≡
   pub part-below : u < d → voicedPart v t ≡ record { loud = false; energy = 0 }
   unfolding voicedPart energyShare
   part-below h =
-      rw (e, le-ltb 9000 ((v .level ⊕ t) .up - (v .level ⊕ t) .down) (omega arith), lt-ltb ((v .level ⊕ t) .up) ((v .level ⊕ t) .down) (omega arith), voicedPart, energyShare)
+      rw (e, le-ltb loudest ((v .level ⊕ t) .up - (v .level ⊕ t) .down) (omega arith), lt-ltb ((v .level ⊕ t) .up) ((v .level ⊕ t) .down) (omega arith), voicedPart, energyShare)
 
-  pub part-loud : 9000 < u - d → voicedPart v t ≡ record { loud = true; energy = 0 }
+  pub part-loud : loudest < u - d → voicedPart v t ≡ record { loud = true; energy = 0 }
   unfolding voicedPart
-  part-loud h = rw (e, lt-ltb 9000 ((v .level ⊕ t) .up - (v .level ⊕ t) .down) (omega arith), voicedPart)
+  part-loud h = rw (e, lt-ltb loudest ((v .level ⊕ t) .up - (v .level ⊕ t) .down) (omega arith), voicedPart)
 
-  pub part-heard : d ≤ u → u - d ≤ 9000 → voicedPart v t ≡ record { loud = false; energy = energyOf (u - d) }
+  pub part-heard : d ≤ u → u - d ≤ loudest → voicedPart v t ≡ record { loud = false; energy = energyOf (u - d) }
   unfolding voicedPart energyShare
   part-heard h l =
       let k : (v .level ⊕ t) .up - (v .level ⊕ t) .down ≡ u - d = omega arith in
-      rw (e, le-ltb 9000 ((v .level ⊕ t) .up - (v .level ⊕ t) .down) (omega arith), le-ltb ((v .level ⊕ t) .up) ((v .level ⊕ t) .down) (omega arith), voicedPart, energyShare)
+      rw (e, le-ltb loudest ((v .level ⊕ t) .up - (v .level ⊕ t) .down) (omega arith), le-ltb ((v .level ⊕ t) .up) ((v .level ⊕ t) .down) (omega arith), voicedPart, energyShare)
       (ap (λ (n : ℕ). record { loud = false; energy = energyOf n }) k)

@@ -38,6 +38,19 @@ planSquare s r = square (apart (s .x) (r .x)) + square (apart (s .y) (r .y))
 unfoldable pub spaceSquare : Source → Receiver → ℕ
 spaceSquare s r = planSquare s r + square (r .height - sourceHeight)
 
+-- ---- how near and how far apart, and how loud a pair may be: squared distances, and a level
+
+-- 5 m
+abbrev pub nearest : ℕ
+nearest = square 500
+
+-- 2 km
+abbrev pub farthest : ℕ
+farthest = square 200000
+
+abbrev pub loudest : ℕ
+loudest = 9000
+
 -- ---- section 3.4: the length of the piece
 
 unfoldable pub lengthTerm : ℕ → Term
@@ -88,7 +101,7 @@ unfoldable pub energyShare : Term → ℕ
 energyShare t = cond (ltb (t .up) (t .down)) 0 (energyOf (t .up - t .down))
 
 abbrev pub tooLoud : Term → Bool
-tooLoud t = ltb 9000 (t .up - t .down)
+tooLoud t = ltb loudest (t .up - t .down)
 
 -- a period without traffic has no share and is not loud
 unfoldable pub shareOf : Source → Receiver → ℕ → ℕ
@@ -104,8 +117,8 @@ sharesOf s r = record { day = shareOf s r 0; evening = shareOf s r 1; night = sh
 
 unfoldable pub pairOf : Source → Receiver → Pair
 pairOf s r =
-    cond (ltb (spaceSquare s r) 250000) (Barred Near)
-    (cond (ltb 40000000000 (spaceSquare s r)) (Barred Far)
+    cond (ltb (spaceSquare s r) nearest) (Barred Near)
+    (cond (ltb farthest (spaceSquare s r)) (Barred Far)
     (cond (ltb (spaceSquare s r) (4 * square (s .length))) (Barred Long)
     (cond (loudIn s r 0 || loudIn s r 1 || loudIn s r 2) (Barred Loud)
     (Heard (sharesOf s r)))))

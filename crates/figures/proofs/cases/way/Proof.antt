@@ -6,7 +6,7 @@ use native.Mathlib.Omega.{arith}
 use Rattle.road.specs.declared.Source.{Source}
 use Rattle.road.specs.declared.Receiver.{Receiver}
 use Rattle.road.specs.declared.Term.{Term}
-use Rattle.road.specs.Reach.{apart, square, planSquare, distanceTerm, groundTerm}
+use Rattle.road.specs.Reach.{apart, square, planSquare, distanceTerm, groundTerm, farthest}
 use Rattle.road.proofs.Bounds.{times}
 use Rattle.road.proofs.Pairs.{Reached, reached, ground-most}
 use borrow.Author.Needs.{needs}
@@ -47,7 +47,7 @@ passing c =
 
 record Spaced (q : ℕ) : Type 0 where
   some : 1 ≤ q
-  most : q ≤ 40000000000
+  most : q ≤ farthest
 
 spaced : (c : tie.After-space) → Spaced (c .space .result)
 spaced c =
