@@ -2,7 +2,7 @@
 -- Assumes the laws of the store, given as a parameter.
 use mathlib.Core.Path.{_≡_, refl, sym, ap, subst, _∙_}
 use mathlib.Core.Bool.{false}
-use mathlib.Core.Option.{Option, none, some}
+use mathlib.Core.Option.{none, some}
 use mathlib.Core.List.{List, [], _∷_, List·Memᴰ·head, List·Permᴰ, Permᴰ·refl}
 use Prim.Native.Nat.{ℕ, _+_, _-_, _<_}
 use native.Mathlib.Omega.{arith}
@@ -12,7 +12,6 @@ use Rattle.level.specs.Table.{table, firstQuarter, secondQuarter, thirdQuarter,
 use Rattle.level.specs.Level.{energyOf, levelOf, upTo, decades, loudnessOf}
 use Rattle.road.specs.declared.Source.{Source}
 use Rattle.road.specs.declared.Pair.{Pair}
-use Rattle.road.specs.declared.Verdict.{Verdict}
 use Rattle.road.specs.declared.Verdict.the-variants.{Allowed}
 use Rattle.road.specs.Pairs.{isHeard, shareIn}
 use Rattle.road.specs.Judge.{sourceVerdict, slotVerdict}
@@ -24,11 +23,12 @@ use Rattle.store.specs.Store.{lastSource, lastReceiver, sourceSlots, receiverSl
 use Rattle.undamaged.specs.declared.Answer.{Answer}
 use Rattle.undamaged.specs.declared.Answer.the-variants.{Levels, Refused}
 use Rattle.ledger.specs.Lists.{present}
-use Rattle.undamaged.specs.Calls.{Step, refuse, allow, intoFree, told, placeSource}
+use Rattle.undamaged.specs.Calls.{told, placeSource}
 use Rattle.store.proofs.Laws.{many-sources}
 use Rattle.book.specs.History.{standingReceivers, Placing, source, receiver, calls, Rebuilds, Call, PlaceSource, WithdrawSource, PlaceReceiver}
 use Rattle.book.specs.History.{Ask, storeAfter, bookAfter, answerTo, Real, accepted, kept, lastAt, row, standingSource, standingReceiver}
 use Rattle.book.specs.History.{standingSources, levelsOf, Hears, Rule}
+use Rattle.undamaged.proofs.Answered.{by-taken}
 use Rattle.book.proofs.Slots.{row-at}
 use Rattle.book.proofs.Gates.{slot-passes}
 use Rattle.book.proofs.Laws.{StoreLaws, store-laws}
@@ -73,9 +73,6 @@ withdrawn = WithdrawSource 0 ∷ PlaceSource 0 far ∷ Ask 5 ∷ placed
 abbrev elsewhere : List Placing
 elsewhere = receiver record { slot = lastReceiver; entry = home } ∷ source record { slot = lastSource; entry = near } ∷ []
 
-at-used : (x : Step) (v : Verdict) (o : Option Source) (t : Source) → v ≡ Allowed → o ≡ some t → allow v (intoFree o x) ≡ refuse Taken
-at-used x v o t p q = rw (p, q)
-
 drops : (c : Call) (h k : List Call) → kept h ≡ k → accepted (answerTo h c) ≡ false → kept (c ∷ h) ≡ k
 unfolding kept
 drops c h k q e = rw (e, q)
@@ -97,7 +94,7 @@ module _ (laws : StoreLaws) where
       ap (λ l. getD l i none) (H .sources) ∙ row-at sourceSlots (standingSource h) none i low ∙ ap (λ l. laneAfter l i) q ∙ e in
       let may : slotVerdict lastSource i (sourceVerdict s) ≡ Allowed = slot-passes lastSource i (sourceVerdict s) (omega (arith, many-sources), ok) in
       ap (λ (o : Answer × List ℕ). o .0)
-      (on-store (placeSource i s) (storeAfter h) (bookAfter h) (H .undamaged) refl ∙ ap (told (storeAfter h)) (at-used _ _ _ t may there))
+      (on-store (placeSource i s) (storeAfter h) (bookAfter h) (H .undamaged) refl ∙ ap (told (storeAfter h)) (by-taken _ _ _ t may there))
 
   -- what an ask is told
   tells : (h k : List Call) → Real h → kept h ≡ k → seatAfter k 5 ≡ some home
