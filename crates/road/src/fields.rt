@@ -8,12 +8,12 @@ use crate::limits;
 ghost use mathlib.Core.Path.{_≡_};
 ghost use mathlib.Core.Bool.{cond};
 ghost use mathlib.Core.List.{[]};
-ghost use Prim.Native.Nat.{_+_, _≤_, _<_};
+ghost use Prim.Native.Nat.{_+_, _≤_};
 ghost use lib.ListN.{length, drop};
-ghost use Rattle.road.specs.Fields.{sourceTable, receiverTable, sourceOf, receiverOf, valuesBy, leastBy, mostBy, slotBitsBy, numberBy, rowsBy, plain, Fit};
+ghost use Rattle.road.specs.Fields.{sourceTable, receiverTable, sourceOf, receiverOf, valuesBy, leastBy, mostBy, slotBitsBy, rowsBy, plain, Fit};
 
 // The columns of a row: the field's number, its bits in a record, its bytes in a slot, the least and the most that it may be.
-const NUMBER: usize = 0;
+pub(crate) const NUMBER: usize = 0;
 
 pub const BITS: usize = 1;
 
@@ -120,37 +120,17 @@ const HEIGHT: usize = 10;
 const SPACING: usize = 11;
 
 // The rows of a source, with the limits of a road that rises between walls.
-fn source_rows() -> [[u64; 5]; 18]
+pub(crate) fn source_rows() -> [[u64; 5]; 18]
     ensures { λ r. ⌜ r ≡ rowsBy sourceTable plain ⌝ }
 {
     SOURCE
 }
 
 // The rows of a receiver.
-fn receiver_rows() -> [[u64; 5]; 3]
+pub(crate) fn receiver_rows() -> [[u64; 5]; 3]
     ensures { λ r. ⌜ r ≡ rowsBy receiverTable (receiverOf []) ⌝ }
 {
     RECEIVER
-}
-
-// The number of the field in row i of a source.
-pub(crate) fn source_number(i: usize) -> u16
-    requires { ⌜ i < 18 ⌝ }
-    ensures { λ r. ⌜ r ≡ numberBy sourceTable i ⌝ }
-{
-    let rows = source_rows();
-    let row = rows[i];
-    row[NUMBER] as u16
-}
-
-// And of a receiver.
-pub(crate) fn receiver_number(i: usize) -> u16
-    requires { ⌜ i < 3 ⌝ }
-    ensures { λ r. ⌜ r ≡ numberBy receiverTable i ⌝ }
-{
-    let rows = receiver_rows();
-    let row = rows[i];
-    row[NUMBER] as u16
 }
 
 // The values of a source.

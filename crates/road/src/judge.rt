@@ -7,7 +7,9 @@ use crate::emission;
 use crate::fields;
 use answer::Refusal;
 ghost use mathlib.Core.Path.{_≡_};
+ghost use Prim.Native.Nat.{_<_};
 ghost use Rattle.level.specs.Table.{table};
+ghost use Rattle.road.specs.Fields.{sourceTable, receiverTable, numberBy};
 ghost use Rattle.road.specs.Judge.{sourceVerdict, receiverVerdict, slotVerdict, quietTruck};
 
 // Whether the trucks are quieter than the cars.
@@ -20,6 +22,26 @@ fn quiet_truck(steps: &[u32; 1000], s: Source) -> bool
     truck < car
 }
 
+// The number of the field in row i of a source.
+fn source_number(i: usize) -> u16
+    requires { ⌜ i < 18 ⌝ }
+    ensures { λ r. ⌜ r ≡ numberBy sourceTable i ⌝ }
+{
+    let rows = fields::source_rows();
+    let row = rows[i];
+    row[fields::NUMBER] as u16
+}
+
+// And of a receiver.
+fn receiver_number(i: usize) -> u16
+    requires { ⌜ i < 3 ⌝ }
+    ensures { λ r. ⌜ r ≡ numberBy receiverTable i ⌝ }
+{
+    let rows = fields::receiver_rows();
+    let row = rows[i];
+    row[fields::NUMBER] as u16
+}
+
 // Whether the fields of a source are allowed.
 pub fn judge_source(steps: &[u32; 1000], s: Source) -> Verdict
     requires { ⌜ now steps ≡ table ⌝ }
@@ -30,7 +52,7 @@ pub fn judge_source(steps: &[u32; 1000], s: Source) -> Verdict
     let most = fields::source_most(s);
     let at = layout::first_outside(&least, &most, &values);
     if at < 18 {
-        let number = fields::source_number(at);
+        let number = source_number(at);
         return Verdict::Refused(Refusal::Field(number));
     }
     if (5 <= s.surface) & (emission::within(30, 130, s.car as u64) <= 60) {
@@ -51,7 +73,7 @@ pub fn judge_receiver(r: Receiver) -> Verdict
     let most = fields::RECEIVER_MOST;
     let at = layout::first_outside(&least, &most, &values);
     if at < 3 {
-        let number = fields::receiver_number(at);
+        let number = receiver_number(at);
         return Verdict::Refused(Refusal::Field(number));
     }
     Verdict::Allowed

@@ -6,8 +6,8 @@ use native.Mathlib.Omega.{arith}
 use borrow.Author.Needs.{needs}
 use Rattle.road.specs.Fields.{receiverTable, receiverOf}
 use Rattle.road.proofs.Rows.{number-row, number-fits}
-use Rattle.road.proofs.fields.receiver_number.Statement.{statement}
-use Rattle.road.proofs.fields.receiver_number.Tie as tie
+use Rattle.road.proofs.judge.receiver_number.Statement.{statement}
+use Rattle.road.proofs.judge.receiver_number.Tie as tie
 
 receiver-rows-requires : tie.Need-receiver-rows-requires
 receiver-rows-requires c κs = search needs

@@ -5,8 +5,8 @@ use native.Mathlib.Omega.{arith}
 use borrow.Author.Needs.{needs}
 use Rattle.road.specs.Fields.{sourceTable, plain}
 use Rattle.road.proofs.Rows.{number-row, number-fits}
-use Rattle.road.proofs.fields.source_number.Statement.{statement}
-use Rattle.road.proofs.fields.source_number.Tie as tie
+use Rattle.road.proofs.judge.source_number.Statement.{statement}
+use Rattle.road.proofs.judge.source_number.Tie as tie
 
 source-rows-requires : tie.Need-source-rows-requires
 source-rows-requires c κs = search needs
