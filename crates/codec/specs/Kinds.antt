@@ -16,11 +16,11 @@ use Rattle.codec.specs.declared.Request.the-variants.{PlaceReceiver, Wit
 abbrev pub kindBits : ℕ
 kindBits = 4
 
-abbrev pub sourceBits : ℕ
-sourceBits = 9
+abbrev pub sourceSlotBits : ℕ
+sourceSlotBits = 9
 
-abbrev pub receiverBits : ℕ
-receiverBits = 6
+abbrev pub receiverSlotBits : ℕ
+receiverSlotBits = 6
 
 -- ---- the table
 
@@ -51,15 +51,15 @@ abbrev pub kinds : List Kind
 kinds =
     unlisted
     -- 1: place receiver, 9 bytes
-    ∷ kind receiverBits (bitsBy receiverTable) (5 ∷ []) (λ slot v. PlaceReceiver slot (receiverOf v)) (λ v. blank)
+    ∷ kind receiverSlotBits (bitsBy receiverTable) (5 ∷ []) (λ slot v. PlaceReceiver slot (receiverOf v)) (λ v. blank)
     -- 2: withdraw receiver, 2 bytes
-    ∷ kind receiverBits [] (6 ∷ []) (λ slot v. WithdrawReceiver slot) (λ v. blank)
+    ∷ kind receiverSlotBits [] (6 ∷ []) (λ slot v. WithdrawReceiver slot) (λ v. blank)
     -- 3: place source, 30 bytes
-    ∷ kind sourceBits (bitsBy sourceTable) [] (λ slot v. PlaceSource slot) sourceOf
+    ∷ kind sourceSlotBits (bitsBy sourceTable) [] (λ slot v. PlaceSource slot) sourceOf
     -- 4: withdraw source, 2 bytes
-    ∷ kind sourceBits [] (3 ∷ []) (λ slot v. WithdrawSource slot) (λ v. blank)
+    ∷ kind sourceSlotBits [] (3 ∷ []) (λ slot v. WithdrawSource slot) (λ v. blank)
     -- 5: ask, 2 bytes
-    ∷ kind receiverBits [] (6 ∷ []) (λ slot v. Ask slot) (λ v. blank)
+    ∷ kind receiverSlotBits [] (6 ∷ []) (λ slot v. Ask slot) (λ v. blank)
     ∷ []
 
 -- no record is longer, in bytes
@@ -93,10 +93,10 @@ leftoverOf k v = at v (suc (kindAt k .fields))
 
 -- the last slots that their bits can name, however many slots a book has
 abbrev pub lastNamedSource : ℕ
-lastNamedSource = 2 ^ sourceBits - 1
+lastNamedSource = 2 ^ sourceSlotBits - 1
 
 abbrev pub lastNamedReceiver : ℕ
-lastNamedReceiver = 2 ^ receiverBits - 1
+lastNamedReceiver = 2 ^ receiverSlotBits - 1
 
 -- whether it is allowed, by the limits of slots, receivers and sources: refusals 5, 6 and 7
 unfoldable pub verdictOf : Request → Source → Verdict

@@ -18,26 +18,26 @@ ghost use Rattle.codec.specs.Inner.{allWidths, filled, shapeOf};
 // What every record begins with, in bits: its kind, and the slot of a source or of a receiver.
 pub const KIND_BITS: u8 = 4;
 
-const SOURCE_BITS: u8 = 9;
+const SOURCE_SLOT_BITS: u8 = 9;
 
-const RECEIVER_BITS: u8 = 6;
+const RECEIVER_SLOT_BITS: u8 = 6;
 
 // The widths in bits of one kind after the other: the kind itself, its fields, and its leftover bits where there are any.
 const WIDTHS: [u8; 35] = [
     // 1: place receiver
     KIND_BITS,
-    RECEIVER_BITS,
+    RECEIVER_SLOT_BITS,
     fields::RECEIVER[0][fields::BITS] as u8,
     fields::RECEIVER[1][fields::BITS] as u8,
     fields::RECEIVER[2][fields::BITS] as u8,
     5,
     // 2: withdraw receiver
     KIND_BITS,
-    RECEIVER_BITS,
+    RECEIVER_SLOT_BITS,
     6,
     // 3: place source
     KIND_BITS,
-    SOURCE_BITS,
+    SOURCE_SLOT_BITS,
     fields::SOURCE[0][fields::BITS] as u8,
     fields::SOURCE[1][fields::BITS] as u8,
     fields::SOURCE[2][fields::BITS] as u8,
@@ -58,11 +58,11 @@ const WIDTHS: [u8; 35] = [
     fields::SOURCE[17][fields::BITS] as u8,
     // 4: withdraw source
     KIND_BITS,
-    SOURCE_BITS,
+    SOURCE_SLOT_BITS,
     3,
     // 5: ask
     KIND_BITS,
-    RECEIVER_BITS,
+    RECEIVER_SLOT_BITS,
     6,
 ];
 
@@ -79,9 +79,9 @@ const FIELDS: [usize; 6] = [0, 4, 1, 19, 1, 1];
 const BYTES: [usize; 6] = [0, 9, 2, 30, 2, 2];
 
 // The last slots that their bits can name, however many slots a book has.
-const LAST_NAMED_SOURCE: u16 = (1 << SOURCE_BITS) - 1;
+const LAST_NAMED_SOURCE: u16 = (1 << SOURCE_SLOT_BITS) - 1;
 
-const LAST_NAMED_RECEIVER: u16 = (1 << RECEIVER_BITS) - 1;
+const LAST_NAMED_RECEIVER: u16 = (1 << RECEIVER_SLOT_BITS) - 1;
 
 // Where the fields after the slot start among the numbers of a record.
 const FIRST: usize = 2;
@@ -225,7 +225,7 @@ fn join(kind: u64, slot: u16, fields: &[u64]) -> [u64; 25]
     v
 }
 
-// The kind, the fields and the leftover bits of a call, with zeros after them.
+// The kind, the fields and the leftover bits of a call, with zeros after them. A receiver's leftover bits are the first of these.
 pub fn fields_of(call: Request, source: Source) -> [u64; 25]
     ensures { λ r. ⌜ r ≡ filled (fieldsOf call source) ⌝ }
 {

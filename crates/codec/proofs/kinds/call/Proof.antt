@@ -10,7 +10,7 @@ use Rattle.layout.specs.Layout.{Within}
 use Rattle.road.specs.declared.Receiver.{Receiver}
 use Rattle.road.specs.Fields.{receiverTable}
 use Rattle.codec.specs.declared.Request.the-variants.{PlaceReceiver}
-use Rattle.codec.specs.Kinds.{receiverBits, at, kindAt, layoutOf, callIn}
+use Rattle.codec.specs.Kinds.{receiverSlotBits, at, kindAt, layoutOf, callIn}
 use Rattle.codec.proofs.Laws.{slot-there, slot-fits, table-fits, ask-else}
 use Rattle.codec.proofs.kinds.call.Statement.{statement}
 use Rattle.codec.proofs.kinds.call.Tie as tie
@@ -30,7 +30,7 @@ unfolding kindAt
 receiver-of-requires c κs =
     let z = c .before .before .before in
     let v = now (z .args .v) in
-    table-fits receiverTable receiverBits (5 ∷ []) v refl (subst (λ (k : ℕ). Within (layoutOf k) v) (c .match .keys1) (z .pre .1))
+    table-fits receiverTable receiverSlotBits (5 ∷ []) v refl (subst (λ (k : ℕ). Within (layoutOf k) v) (c .match .keys1) (z .pre .1))
 
 returns : tie.Need-returns
 unfolding kindAt

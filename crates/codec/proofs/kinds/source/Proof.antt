@@ -7,7 +7,7 @@ use denote.Ref.{now}
 use lib.ListN.{drop}
 use Rattle.layout.specs.Layout.{Within}
 use Rattle.road.specs.Fields.{sourceTable}
-use Rattle.codec.specs.Kinds.{sourceBits, kindAt, layoutOf, sourceIn}
+use Rattle.codec.specs.Kinds.{sourceSlotBits, kindAt, layoutOf, sourceIn}
 use Rattle.codec.proofs.Laws.{table-fits, blank-else}
 use borrow.Author.Needs.{needs}
 use Rattle.codec.proofs.kinds.source.Statement.{statement}
@@ -18,7 +18,7 @@ unfolding kindAt
 source-of-requires c κs =
     let z = c .before .before in
     let v = now (z .args .v) in
-    table-fits sourceTable sourceBits [] v refl (subst (λ (k : ℕ). Within (layoutOf k) v) (c .if1 .taken) (z .pre))
+    table-fits sourceTable sourceSlotBits [] v refl (subst (λ (k : ℕ). Within (layoutOf k) v) (c .if1 .taken) (z .pre))
 
 returns : tie.Need-returns
 unfolding kindAt
