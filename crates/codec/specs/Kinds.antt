@@ -1,8 +1,9 @@
 -- The kinds of record (document 01, 'Units and fields'): for each its layout, what its fields ask for, which are allowed, and its fields again.
 -- A new kind is a new row of `kinds` and a new line for its call below it.
-use Prim.Native.Nat.{ℕ, suc, _-_, _^_}
+use Prim.Native.Nat.{ℕ, suc, _-_, _^_, max}
 use mathlib.Core.List.{List, [], _∷_, _++_}
 use lib.ListN.{length, getD, drop}
+use Rattle.layout.specs.Layout.{size}
 use Rattle.road.specs.declared.Source.{Source}
 use Rattle.road.specs.declared.Verdict.{Verdict}
 use Rattle.road.specs.declared.Verdict.the-variants.{Allowed}
@@ -62,9 +63,13 @@ kinds =
     ∷ kind receiverSlotBits [] (6 ∷ []) (λ slot v. Ask slot) (λ v. blank)
     ∷ []
 
--- no record is longer, in bytes
+-- the bytes of the longest record: 30
+abbrev pub longestOf : List Kind → ℕ
+longestOf [] = 0
+longestOf (k ∷ ks) = max (size (k .widths)) (longestOf ks)
+
 abbrev pub longestRecord : ℕ
-longestRecord = 30
+longestRecord = longestOf kinds
 
 unfoldable pub kindAt : ℕ → Kind
 kindAt k = getD kinds k unlisted
