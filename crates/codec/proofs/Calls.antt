@@ -2,32 +2,41 @@
 -- A new kind is a new clause of each law. Assumes nothing.
 use Prim.Native.Nat.{ℕ, zero, suc, _+_, _<_}
 use mathlib.Core.Path.{_≡_, refl, sym, ap, _∙_, subst⁻¹}
-use mathlib.Core.List.{List, [], _∷_}
+use mathlib.Core.List.{List, [], _∷_, _++_}
 use native.Mathlib.Omega.{arith}
 use lib.Dec.{lit<}
-use lib.ListN.{length}
+use lib.ListN.{length, drop, length-drop}
+use lib.Seq.{getD-drop, drop-cons}
 use Rattle.layout.specs.Layout.{size, packed, Within}
 use Rattle.road.specs.declared.Source.{Source}
 use Rattle.road.specs.declared.Verdict.the-variants.{Allowed}
 use Rattle.road.proofs.Fit.{source-within, receiver-within}
 use Rattle.road.proofs.Judged.{slot-allowed}
-use Rattle.road.proofs.Periods.{periods-again}
-use Rattle.road.specs.Judge.{sourceVerdict, receiverVerdict}
+use Rattle.road.proofs.Rows as rows
+use Rattle.road.proofs.Rows.{upto, source-values-again}
+use Rattle.road.specs.Fields.{receiverTable, bitsBy}
+use Rattle.road.specs.Judge.{receiverFields, sourceVerdict, receiverVerdict}
 use Rattle.codec.specs.declared.Request.{Request}
 use Rattle.codec.specs.declared.Request.the-variants.{PlaceReceiver, WithdrawReceiver, PlaceSource, WithdrawSource, Ask}
 use Rattle.codec.specs.Record.{recordOf}
 use Rattle.codec.specs.Inner.{filled, firstOf}
 use Rattle.codec.proofs.Laws.{first-filled}
-use Rattle.codec.specs.Kinds.{lastNamedSource, lastNamedReceiver, at, kindAt, layoutOf, leftoverOf, verdictOf, kindNumber, fieldsOf, sourceWith}
+use Rattle.codec.specs.Kinds.{lastNamedSource, lastNamedReceiver, at, kindAt, layoutOf, callIn, sourceIn, leftoverOf, verdictOf, kindNumber, fieldsOf, sourceWith}
 
 -- ---- an allowed call has fields that fit
+
+within-append : (ws vs xs ys : List ℕ) → Within ws vs → Within xs ys → Within (ws ++ xs) (vs ++ ys)
+within-append [] [] xs ys f g = g
+within-append [] (v ∷ vs) xs ys f g = absurd f
+within-append (w ∷ ws) [] xs ys f g = absurd f
+within-append (w ∷ ws) (v ∷ vs) xs ys f g = (f .0, within-append ws vs xs ys (f .1) g)
 
 pub call-within : (c : Request) (s : Source) → verdictOf c s ≡ Allowed → Within (layoutOf (kindNumber c)) (fieldsOf c s)
 unfolding kindAt verdictOf
 call-within (PlaceReceiver slot r) s e =
     let a = slot-allowed lastNamedReceiver slot (receiverVerdict r) e in
     let w = receiver-within r (a .1) in
-    (lit< tt, (omega (arith, a .0), (w .0, (w .1 .0, (w .1 .1 .0, (lit< tt, tt))))))
+    (lit< tt, (omega (arith, a .0), within-append (bitsBy receiverTable) (receiverFields r) (5 ∷ []) (0 ∷ []) w (lit< tt, tt)))
 call-within (WithdrawReceiver slot) s e = (lit< tt, (omega (arith, slot-allowed lastNamedReceiver slot Allowed e .0), (lit< tt, tt)))
 call-within (PlaceSource slot) s e =
     let a = slot-allowed lastNamedSource slot (sourceVerdict s) e in
@@ -68,7 +77,7 @@ call-leftover (PlaceSource slot) s = refl
 call-leftover (WithdrawSource slot) s = refl
 call-leftover (Ask slot) s = refl
 
-pub call-again : (c : Request) (s : Source) → kindAt (kindNumber c) .call (at (fieldsOf c s)) ≡ c
+pub call-again : (c : Request) (s : Source) → callIn (kindNumber c) (fieldsOf c s) ≡ c
 unfolding kindAt
 call-again (PlaceReceiver slot r) s = refl
 call-again (WithdrawReceiver slot) s = refl
@@ -76,11 +85,11 @@ call-again (PlaceSource slot) s = refl
 call-again (WithdrawSource slot) s = refl
 call-again (Ask slot) s = refl
 
-pub source-again : (c : Request) (s : Source) → length (s .traffic) ≡ 3 → kindAt (kindNumber c) .source (at (fieldsOf c s)) ≡ sourceWith c s
+pub source-again : (c : Request) (s : Source) → length (s .traffic) ≡ 3 → sourceIn (kindNumber c) (fieldsOf c s) ≡ sourceWith c s
 unfolding kindAt
 source-again (PlaceReceiver slot r) s h = refl
 source-again (WithdrawReceiver slot) s h = refl
-source-again (PlaceSource slot) s h = periods-again s h
+source-again (PlaceSource slot) s h = rows.source-again s h
 source-again (WithdrawSource slot) s h = refl
 source-again (Ask slot) s h = refl
 
@@ -108,37 +117,43 @@ module _ (c : Request) (s : Source) (k : ℕ) (v : List ℕ) (e : k ≡ kindNumb
 
 -- ---- from fields to their call and back
 
-pub kind-again : (k : ℕ) (field : ℕ → ℕ) → 0 < size (layoutOf k) → kindNumber (kindAt k .call field) ≡ k
+pub kind-again : (k slot : ℕ) (v : List ℕ) → 0 < size (layoutOf k) → kindNumber (kindAt k .call slot v) ≡ k
 unfolding kindAt
-kind-again zero field h = absurd (omega arith)
-kind-again (suc zero) field h = refl
-kind-again (suc (suc zero)) field h = refl
-kind-again (suc (suc (suc zero))) field h = refl
-kind-again (suc (suc (suc (suc zero)))) field h = refl
-kind-again (suc (suc (suc (suc (suc zero))))) field h = refl
-kind-again (suc (suc (suc (suc (suc (suc k)))))) field h = absurd (omega arith)
+kind-again zero slot v h = absurd (omega arith)
+kind-again (suc zero) slot v h = refl
+kind-again (suc (suc zero)) slot v h = refl
+kind-again (suc (suc (suc zero))) slot v h = refl
+kind-again (suc (suc (suc (suc zero)))) slot v h = refl
+kind-again (suc (suc (suc (suc (suc zero))))) slot v h = refl
+kind-again (suc (suc (suc (suc (suc (suc k)))))) slot v h = absurd (omega arith)
 
--- the first n fields
-abbrev upto : (ℕ → ℕ) → ℕ → List ℕ
-upto field zero = []
-upto field (suc n) = field 0 ∷ upto (λ i. field (suc i)) n
+-- n fields and the leftover bits, which are zero
+left-over : (n : ℕ) (v : List ℕ) → length v ≡ suc n → at v n ≡ 0 → upto (at v) n ++ (0 ∷ []) ≡ v
+left-over n [] l e = absurd (omega arith)
+left-over zero (x ∷ []) l e = λ i. sym e i ∷ []
+left-over zero (x ∷ y ∷ v) l e = absurd (omega arith)
+left-over (suc n) (x ∷ v) l e = ap (λ (r : List ℕ). x ∷ r) (left-over n v (omega arith) e)
 
-spelled : (v : List ℕ) → upto (at v) (length v) ≡ v
-spelled [] = refl
-spelled (x ∷ v) = ap (λ (l : List ℕ). x ∷ l) (spelled v)
+-- kind and slot, and the fields after them
+module _ (k : ℕ) (v : List ℕ) (n : ℕ) (l : length v ≡ suc (suc n)) (e : at v 0 ≡ k) where
+  begun : {r : List ℕ} → r ≡ drop 2 v → k ∷ at v 1 ∷ r ≡ v
+  begun f = (λ i. sym e i ∷ at v 1 ∷ f i) ∙ sym (drop-cons v 0 0 (omega arith) ∙ ap (λ (r : List ℕ). at v 0 ∷ r) (drop-cons v 1 0 (omega arith)))
 
-all-of : (n : ℕ) (v : List ℕ) → length v ≡ n → upto (at v) n ≡ v
-all-of n v h = ap (upto (at v)) (sym h) ∙ spelled v
+  after : length (drop 2 v) ≡ n
+  after = omega (arith, length-drop 2 v)
+
+-- and leftover bits, which are zero
+begun-over : (k : ℕ) (v : List ℕ) (n : ℕ) → length v ≡ suc (suc (suc n)) → at v 0 ≡ k → at v (2 + n) ≡ 0
+    → k ∷ at v 1 ∷ (upto (at (drop 2 v)) n ++ (0 ∷ [])) ≡ v
+begun-over k v n l e z = begun k v (suc n) l e (left-over n (drop 2 v) (after k v (suc n) l e) (getD-drop 2 v n 0 ∙ z))
 
 pub fields-again : (k : ℕ) (v : List ℕ) → 0 < size (layoutOf k) → length v ≡ length (layoutOf k) → at v 0 ≡ k → leftoverOf k v ≡ 0
-    → fieldsOf (kindAt k .call (at v)) (kindAt k .source (at v)) ≡ v
+    → fieldsOf (callIn k v) (sourceIn k v) ≡ v
 unfolding kindAt
 fields-again zero v h l e f = absurd (omega arith)
-fields-again (suc zero) v h l e f =
-    sym (λ i. e i ∷ at v 1 ∷ at v 2 ∷ at v 3 ∷ at v 4 ∷ f i ∷ []) ∙ all-of 6 v l
-fields-again (suc (suc zero)) v h l e f = sym (λ i. e i ∷ at v 1 ∷ f i ∷ []) ∙ all-of 3 v l
-fields-again (suc (suc (suc zero))) v h l e f =
-    sym (λ i. e i ∷ upto (λ (j : ℕ). at v (suc j)) 19) ∙ all-of 20 v l
-fields-again (suc (suc (suc (suc zero)))) v h l e f = sym (λ i. e i ∷ at v 1 ∷ f i ∷ []) ∙ all-of 3 v l
-fields-again (suc (suc (suc (suc (suc zero))))) v h l e f = sym (λ i. e i ∷ at v 1 ∷ f i ∷ []) ∙ all-of 3 v l
+fields-again (suc zero) v h l e f = begun-over 1 v 3 l e f
+fields-again (suc (suc zero)) v h l e f = begun-over 2 v 0 l e f
+fields-again (suc (suc (suc zero))) v h l e f = begun 3 v 18 l e (source-values-again (drop 2 v) (after 3 v 18 l e))
+fields-again (suc (suc (suc (suc zero)))) v h l e f = begun-over 4 v 0 l e f
+fields-again (suc (suc (suc (suc (suc zero))))) v h l e f = begun-over 5 v 0 l e f
 fields-again (suc (suc (suc (suc (suc (suc k)))))) v h l e f = absurd (omega arith)

@@ -1,7 +1,7 @@
 -- What the reader and the writer come to, case by case, over plain values; and the laws of fields with zeros after them.
 -- Assumes nothing.
 use Prim.Native.Nat.{ℕ, zero, suc, _+_, _^_, _≤_, _<_}
-use mathlib.Core.Path.{_≡_, refl, sym, ap, _∙_}
+use mathlib.Core.Path.{_≡_, refl, sym, ap, _∙_, subst⁻¹}
 use mathlib.Core.Bool.{Bool, true, false, cond, _||_}
 use mathlib.Core.List.{List, [], _∷_, _++_, append-assoc}
 use native.Mathlib.Nat.{not-suc-le-zero, le-of-suc-le-suc, lt-of-lt-of-le}
@@ -9,22 +9,25 @@ use native.Mathlib.Numerals.{add-one}
 use native.Mathlib.Omega.{arith}
 use borrow.Author.Tests.{le-leb, lt-leb, leb-true, ltb-false, lt-ltb, le-ltb}
 use lib.Dec.{leb, ltb, eqb}
-use lib.ListN.{length, getD, take, drop, replicate, set}
-use lib.Seq.{getD-drop, take-at, drop-cons, set-at, take-suc, length-take-le, take-length}
+use lib.ListN.{length, getD, take, drop, replicate, set, length-append, length-map}
+use lib.Seq.{getD-drop, take-at, drop-cons, set-at, take-suc, length-take-le, take-length, take-all}
 use lib.Pow.{pow-mono}
 use Rattle.layout.specs.Layout.{size, fields, Within, bits, num}
-use Rattle.layout.proofs.Laws.{length-fields, fields-within, length-packed}
+use Rattle.layout.proofs.Packing.{within-length}
+use Rattle.layout.proofs.Laws.{length-fields, length-packed}
 use Rattle.answer.specs.declared.Refusal.{Refusal}
 use Rattle.answer.specs.declared.Refusal.the-variants.{CutShort, UnknownKind, Leftover}
 use Rattle.road.specs.declared.Source.{Source}
 use Rattle.road.specs.declared.Verdict.{Verdict}
 use Rattle.road.specs.declared.Verdict.the-variants as verdict
+use Rattle.road.specs.Fields.{Row, bitsBy, slotBitsBy, Fit}
+use Rattle.road.proofs.Rows.{roomy, fit-wider, record-fit}
 use Rattle.codec.specs.declared.Request.{Request}
 use Rattle.codec.specs.declared.Request.the-variants.{Ask}
 use Rattle.codec.specs.declared.Told.the-variants as told
 use Rattle.codec.specs.declared.Written.{Written}
 use Rattle.codec.specs.declared.Written.the-variants as written
-use Rattle.codec.specs.Kinds.{at, blank, kindAt, layoutOf, leftoverOf, verdictOf, kindNumber, fieldsOf}
+use Rattle.codec.specs.Kinds.{kindBits, at, blank, kindAt, layoutOf, callIn, sourceIn, leftoverOf, verdictOf, kindNumber, fieldsOf}
 use Rattle.codec.specs.Record.{kindOf, lengthOf, valuesOf, cutShort, unknownKind, leftoverSet, reading, refused, judged, heardBy, heard, readOf, extentOf, recordOf, writtenBy, writeOf}
 use Rattle.codec.specs.Inner.{filled, firstOf}
 use Rattle.codec.proofs.Rows.{row-begun}
@@ -50,8 +53,9 @@ pub first-filled : (k : ℕ) (v : List ℕ) → length v ≡ length (layoutOf k)
 unfolding filled
 first-filled k v e = take-at v (drop (length v) (replicate 25 0)) (length (layoutOf k)) e
 
-pub values-within : (k : ℕ) (s : List ℕ) → Within (layoutOf k) (firstOf k (filled (fields (layoutOf k) s)))
-values-within k s = rw (first-filled k (fields (layoutOf k) s) (length-fields (layoutOf k) s)) (fields-within (layoutOf k) s)
+-- the reader's array begins with the fields that are read
+pub first-values : (k n : ℕ) (s v : List ℕ) → n ≡ length (layoutOf k) → v ≡ filled (fields (layoutOf k) s) → take n v ≡ fields (layoutOf k) s
+first-values k n s v e f = (λ i. take (e i) (f i)) ∙ first-filled k (fields (layoutOf k) s) (length-fields (layoutOf k) s)
 
 -- one field more of those that are copied over zeros
 pub copied : (f z : List ℕ) (i : ℕ) → i < length f → i < length z
@@ -75,18 +79,32 @@ joined-all a b f v i e h =
     h ∙ (λ j. a ∷ b ∷ (take (e j) f ++ drop (e j) (replicate 23 0)))
     ∙ ap (λ (x : List ℕ). a ∷ b ∷ (x ++ drop (length f) (replicate 23 0))) (take-length f)
 
--- a field is below 2 ^ its width
-pub field-fits : (ws v : List ℕ) (i : ℕ) → Within ws (take (length ws) v) → i < length ws → at v i < 2 ^ at ws i
+-- ---- fields within their widths
+
+field-fits : (ws v : List ℕ) (i : ℕ) → Within ws v → i < length ws → at v i < 2 ^ at ws i
 field-fits [] v i w h = absurd (not-suc-le-zero h)
 field-fits (n ∷ ws) [] i w h = absurd w
 field-fits (n ∷ ws) (x ∷ v) zero w h = w .0
 field-fits (n ∷ ws) (x ∷ v) (suc i) w h = field-fits ws v i (w .1) (le-of-suc-le-suc h)
 
--- and so a slot fits sixteen bits
-pub slot-fits : (k : ℕ) (v : List ℕ) → 0 < size (layoutOf k) → Within (layoutOf k) (firstOf k v) → at v 1 < 65536
-slot-fits k v h w =
-    let b = row-begun k h in
-    lt-of-lt-of-le (field-fits (layoutOf k) v 1 w (b .two)) (pow-mono {i = at (layoutOf k) 1} {j = 16} (b .slot))
+-- the slot is there, and fits sixteen bits
+module _ (k : ℕ) (v : List ℕ) (h : 0 < size (layoutOf k)) (w : Within (layoutOf k) v) where
+  pub slot-there : 1 < length v
+  slot-there = omega (arith, row-begun k h .two, within-length (layoutOf k) v w)
+
+  pub slot-fits : at v 1 < 65536
+  slot-fits =
+      let b = row-begun k h in
+      lt-of-lt-of-le (field-fits (layoutOf k) v 1 w (b .two)) (pow-mono {i = at (layoutOf k) 1} {j = 16} (b .slot))
+
+-- the fields of a table that follow kind and slot are there, and fit what the code makes of them
+pub table-fits : {A : Type 0} (t : List (Row A)) (slot : ℕ) (left v : List ℕ) → roomy t ≡ true → Within (kindBits ∷ slot ∷ (bitsBy t ++ left)) v
+    → (2 + length t ≤ length v) × Fit (slotBitsBy t) 2 v
+table-fits {A} t slot left v h w =
+    let ws = kindBits ∷ slot ∷ (bitsBy t ++ left) in
+    let n = within-length ws v w in
+    let f = record-fit ws v (subst⁻¹ (Within ws) (take-all (length ws) v (omega arith)) w) in
+    (omega (arith, length-append (bitsBy t) left, length-map t (λ (r : Row A). r .bits)), fit-wider t left 2 v h (f .1 .1))
 
 -- ---- the kind and the extent
 
@@ -113,7 +131,7 @@ extent-le s = go (leb (lengthOf s) (length s)) refl
 
 -- ---- what fields tell
 
-module _ (k : ℕ) (v : List ℕ) (call : Request) (source : Source) (e : call ≡ kindAt k .call (at v)) (f : source ≡ kindAt k .source (at v)) where
+module _ (k : ℕ) (v : List ℕ) (call : Request) (source : Source) (e : call ≡ callIn k v) (f : source ≡ sourceIn k v) where
   heard-by : heardBy call source ≡ heard k v
   heard-by = λ i. heardBy (e i) (f i)
 
@@ -122,9 +140,6 @@ module _ (k : ℕ) (v : List ℕ) (call : Request) (source : Source) (e : call �
 
   pub heard-allowed : verdictOf call source ≡ verdict.Allowed → reading (told.Request call) source ≡ heard k v
   heard-allowed h = sym (ap (λ (x : Verdict). judged x call source) h) ∙ heard-by
-
-pub heard-filled : (k : ℕ) (v : List ℕ) → heard k (filled v) ≡ heard k v
-heard-filled k v = λ i. heardBy (kindAt k .call (at-filled v i)) (kindAt k .source (at-filled v i))
 
 -- ---- reading
 
@@ -194,22 +209,22 @@ module _ (call : Request) (source : Source) (out : List ℕ) where
 
 -- ---- the kinds that the code does not name
 
-pub ask-else : (k : ℕ) (field : ℕ → ℕ) → (k ≡ 1 → ⊥) → (k ≡ 2 → ⊥) → (k ≡ 3 → ⊥) → (k ≡ 4 → ⊥) → kindAt k .call field ≡ Ask (field 1)
+pub ask-else : (k slot : ℕ) (v : List ℕ) → (k ≡ 1 → ⊥) → (k ≡ 2 → ⊥) → (k ≡ 3 → ⊥) → (k ≡ 4 → ⊥) → kindAt k .call slot v ≡ Ask slot
 unfolding kindAt
-ask-else zero field a b c d = refl
-ask-else (suc zero) field a b c d = absurd (a refl)
-ask-else (suc (suc zero)) field a b c d = absurd (b refl)
-ask-else (suc (suc (suc zero))) field a b c d = absurd (c refl)
-ask-else (suc (suc (suc (suc zero)))) field a b c d = absurd (d refl)
-ask-else (suc (suc (suc (suc (suc zero))))) field a b c d = refl
-ask-else (suc (suc (suc (suc (suc (suc k)))))) field a b c d = refl
+ask-else zero slot v a b c d = refl
+ask-else (suc zero) slot v a b c d = absurd (a refl)
+ask-else (suc (suc zero)) slot v a b c d = absurd (b refl)
+ask-else (suc (suc (suc zero))) slot v a b c d = absurd (c refl)
+ask-else (suc (suc (suc (suc zero)))) slot v a b c d = absurd (d refl)
+ask-else (suc (suc (suc (suc (suc zero))))) slot v a b c d = refl
+ask-else (suc (suc (suc (suc (suc (suc k)))))) slot v a b c d = refl
 
-pub blank-else : (k : ℕ) (field : ℕ → ℕ) → (k ≡ 3 → ⊥) → kindAt k .source field ≡ blank
+pub blank-else : (k : ℕ) (v : List ℕ) → (k ≡ 3 → ⊥) → kindAt k .source v ≡ blank
 unfolding kindAt
-blank-else zero field a = refl
-blank-else (suc zero) field a = refl
-blank-else (suc (suc zero)) field a = refl
-blank-else (suc (suc (suc zero))) field a = absurd (a refl)
-blank-else (suc (suc (suc (suc zero)))) field a = refl
-blank-else (suc (suc (suc (suc (suc zero))))) field a = refl
-blank-else (suc (suc (suc (suc (suc (suc k)))))) field a = refl
+blank-else zero v a = refl
+blank-else (suc zero) v a = refl
+blank-else (suc (suc zero)) v a = refl
+blank-else (suc (suc (suc zero))) v a = absurd (a refl)
+blank-else (suc (suc (suc (suc zero)))) v a = refl
+blank-else (suc (suc (suc (suc (suc zero))))) v a = refl
+blank-else (suc (suc (suc (suc (suc (suc k)))))) v a = refl

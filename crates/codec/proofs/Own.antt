@@ -13,7 +13,7 @@ use Rattle.layout.proofs.Laws.{fields-append}
 use Rattle.layout.proofs.Own.{bits-own}
 use Rattle.answer.specs.declared.Refusal.the-variants.{CutShort, UnknownKind, Leftover}
 use Rattle.codec.specs.declared.Reading.{Reading}
-use Rattle.codec.specs.Kinds.{layoutOf, leftoverOf}
+use Rattle.codec.specs.Kinds.{kindBits, layoutOf, leftoverOf}
 use Rattle.codec.specs.Record.{kindOf, lengthOf, valuesOf, cutShort, refused, heard, readOf, extentOf}
 use Rattle.codec.proofs.Laws.{extent-whole}
 
@@ -27,7 +27,7 @@ told k v = cond (eqb (size (layoutOf k)) 0) (refused UnknownKind) (cond (ltb 0 (
 
 module _ (s t : List ℕ) (b : Bytes t) (h : 0 < length s) (l : lengthOf s ≤ length s) where
   kind-own : kindOf (s ++ t) ≡ kindOf s
-  kind-own = bits-own s t 0 4 b (omega arith)
+  kind-own = bits-own s t 0 kindBits b (omega arith)
 
   length-own : lengthOf (s ++ t) ≡ lengthOf s
   length-own = ap (λ (k : ℕ). size (layoutOf k)) kind-own

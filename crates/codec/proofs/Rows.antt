@@ -13,7 +13,7 @@ use lib.Seq.{take-at, drop-append-add}
 use Rattle.layout.specs.Layout.{size, sized}
 use Rattle.layout.proofs.Bounds.{both}
 use Rattle.codec.specs.Inner.{joined, allWidths, shapeBy, shapeOf}
-use Rattle.codec.specs.Kinds.{at, Kind, unlisted, kinds, longestRecord, kindAt, layoutOf}
+use Rattle.codec.specs.Kinds.{kindBits, at, Kind, unlisted, kinds, longestRecord, kindAt, layoutOf}
 
 abbrev every : (Kind → Bool) → List Kind → Bool
 every t [] = true
@@ -24,16 +24,16 @@ at-row t [] i h u = u
 at-row t (k ∷ ks) zero h u = both (t k) (every t ks) h .0
 at-row t (k ∷ ks) (suc i) h u = at-row t ks i (both (t k) (every t ks) h .1) u
 
--- a listed kind begins with four bits for itself and at most sixteen for the slot
+-- a listed kind begins with the bits for itself and at most sixteen for the slot
 abbrev begun : List ℕ → Bool
-begun ws = eqb (size ws) 0 || (eqb (at ws 0) 4 && (leb 2 (length ws) && leb (at ws 1) 16))
+begun ws = eqb (size ws) 0 || (eqb (at ws 0) kindBits && (leb 2 (length ws) && leb (at ws 1) 16))
 
 -- the layout is one that the code can handle, in arrays of 24 widths and 25 values
 abbrev fit : Kind → Bool
 fit k = sized (k .widths) && (leb (length (k .widths)) 24 && (leb (k .fields) 23 && begun (k .widths)))
 
 pub record Begun (ws : List ℕ) : Type 0 where
-  pub kind : at ws 0 ≡ 4
+  pub kind : at ws 0 ≡ kindBits
   pub two : 2 ≤ length ws
   pub slot : at ws 1 ≤ 16
 
@@ -64,12 +64,12 @@ module _ (k : ℕ) where
   row-begun h =
       let ws = layoutOf k in
       let n : size ws ≡ 0 → ⊥ = λ e. omega arith in
-      let t = opened (eqb (size ws) 0) (eqb (at ws 0) 4 && (leb 2 (length ws) && leb (at ws 1) 16))
+      let t = opened (eqb (size ws) 0) (eqb (at ws 0) kindBits && (leb 2 (length ws) && leb (at ws 1) 16))
       (both (leb (kindAt k .fields) 23) (begun ws) last .1) (ne-eqb (size ws) 0 n) in
-      let a = both (eqb (at ws 0) 4) (leb 2 (length ws) && leb (at ws 1) 16) t in
+      let a = both (eqb (at ws 0) kindBits) (leb 2 (length ws) && leb (at ws 1) 16) t in
       let b = both (leb 2 (length ws)) (leb (at ws 1) 16) (a .1) in
       record {
-        kind = eqb-true (at ws 0) 4 (a .0);
+        kind = eqb-true (at ws 0) kindBits (a .0);
         two = leb-true 2 (length ws) (b .0);
         slot = leb-true (at ws 1) 16 (b .1);
       }

@@ -22,7 +22,7 @@ use Rattle.codec.specs.declared.Told.the-variants as told
 use Rattle.codec.specs.declared.Reading.{Reading}
 use Rattle.codec.specs.declared.Written.{Written}
 use Rattle.codec.specs.declared.Written.the-variants as written
-use Rattle.codec.specs.Kinds.{at, kindAt, layoutOf, leftoverOf, verdictOf, kindNumber, fieldsOf, sourceWith}
+use Rattle.codec.specs.Kinds.{at, kindAt, layoutOf, callIn, sourceIn, leftoverOf, verdictOf, kindNumber, fieldsOf, sourceWith}
 use Rattle.codec.specs.Record.{kindOf, lengthOf, valuesOf, cutShort, unknownKind, leftoverSet, reading, refused, judged, heardBy, heard, readOf, extentOf, partBy, partOf, recordOf, writtenBy, writeOf}
 use Rattle.codec.proofs.Rows.{row-sized, row-begun}
 use Rattle.codec.proofs.Laws.{uncut, extent-whole, read-heard, write-done}
@@ -58,8 +58,8 @@ pub record Accepted (s : List ℕ) (c : Request) (r : Source) : Type 0 where
   pub listed : 0 < lengthOf s
   pub whole : lengthOf s ≤ length s
   pub clean : leftoverOf (kindOf s) (valuesOf s) ≡ 0
-  pub call : kindAt (kindOf s) .call (at (valuesOf s)) ≡ c
-  pub source : kindAt (kindOf s) .source (at (valuesOf s)) ≡ r
+  pub call : callIn (kindOf s) (valuesOf s) ≡ c
+  pub source : sourceIn (kindOf s) (valuesOf s) ≡ r
   pub allowed : verdictOf c r ≡ verdict.Allowed
 
 pub accepted : (s : List ℕ) (c : Request) (r : Source) → readOf s ≡ reading (told.Request c) r → Accepted s c r
@@ -67,8 +67,8 @@ unfolding readOf
 accepted s c r e =
     let k = kindOf s in
     let v = valuesOf s in
-    let d = kindAt k .call (at v) in
-    let q = kindAt k .source (at v) in
+    let d = callIn k v in
+    let q = sourceIn k v in
     let p1 = past c r (cutShort s) CutShort (cond (unknownKind s) (refused UnknownKind) (cond (leftoverSet s) (refused Leftover) (heard k v))) e in
     let p2 = past c r (unknownKind s) UnknownKind (cond (leftoverSet s) (refused Leftover) (heard k v)) (p1 .1) in
     let p3 = past c r (leftoverSet s) Leftover (heard k v) (p2 .1) in
@@ -98,7 +98,7 @@ write-read s out c r b l e =
     let k = kindOf s in
     let v = valuesOf s in
     let x : extentOf s ≡ lengthOf s = sym (extent-whole s (a .whole)) in
-    let n : kindNumber c ≡ k = ap kindNumber (sym (a .call)) ∙ kind-again k (at v) (a .listed) in
+    let n : kindNumber c ≡ k = ap kindNumber (sym (a .call)) ∙ kind-again k (at v 1) (drop 2 v) (a .listed) in
     let f : fieldsOf c r ≡ v =
     sym (ap₂ fieldsOf (a .call) (a .source))
     ∙ fields-again k v (a .listed) (length-fields (layoutOf k) s) (kind-first k s (a .listed) (a .whole) b) (a .clean) in
@@ -168,15 +168,15 @@ part-refused s why e = ap (λ (x : Told). partBy x s) e
 
 -- ---- a source that is read has three periods, like every source of the code
 
-kind-periods : (k : ℕ) (f : ℕ → ℕ) → length (kindAt k .source f .traffic) ≡ 3
+kind-periods : (k : ℕ) (v : List ℕ) → length (kindAt k .source v .traffic) ≡ 3
 unfolding kindAt
-kind-periods zero f = refl
-kind-periods (suc zero) f = refl
-kind-periods (suc (suc zero)) f = refl
-kind-periods (suc (suc (suc zero))) f = refl
-kind-periods (suc (suc (suc (suc zero)))) f = refl
-kind-periods (suc (suc (suc (suc (suc zero))))) f = refl
-kind-periods (suc (suc (suc (suc (suc (suc k)))))) f = refl
+kind-periods zero v = refl
+kind-periods (suc zero) v = refl
+kind-periods (suc (suc zero)) v = refl
+kind-periods (suc (suc (suc zero))) v = refl
+kind-periods (suc (suc (suc (suc zero)))) v = refl
+kind-periods (suc (suc (suc (suc (suc zero))))) v = refl
+kind-periods (suc (suc (suc (suc (suc (suc k)))))) v = refl
 
 judged-periods : (v : Verdict) (c : Request) (s : Source) → length (s .traffic) ≡ 3 → length (judged v c s .source .traffic) ≡ 3
 judged-periods verdict.Allowed c s e = e
@@ -189,8 +189,8 @@ either-periods false a b p q = q
 pub three-periods : (s : List ℕ) → length (readOf s .source .traffic) ≡ 3
 unfolding readOf
 three-periods s =
-    let c = kindAt (kindOf s) .call (at (valuesOf s)) in
-    let r = kindAt (kindOf s) .source (at (valuesOf s)) in
+    let c = callIn (kindOf s) (valuesOf s) in
+    let r = sourceIn (kindOf s) (valuesOf s) in
     either-periods (cutShort s) _ _ refl
     (either-periods (unknownKind s) _ _ refl
-    (either-periods (leftoverSet s) _ _ refl (judged-periods (verdictOf c r) c r (kind-periods (kindOf s) (at (valuesOf s))))))
+    (either-periods (leftoverSet s) _ _ refl (judged-periods (verdictOf c r) c r (kind-periods (kindOf s) (drop 2 (valuesOf s))))))

@@ -1,52 +1,27 @@
 -- The kinds of record (document 01, 'Units and fields'): for each its layout, what its fields ask for, which are allowed, and its fields again.
 -- A new kind is a new row of `kinds` and a new line for its call below it.
-use Prim.Native.Nat.{ℕ, suc, _-_, _^_}
+use Prim.Native.Nat.{ℕ, suc, _-_, _^_, max}
 use mathlib.Core.List.{List, [], _∷_, _++_}
-use lib.ListN.{getD}
-use Rattle.road.specs.declared.Receiver.{Receiver}
-use Rattle.road.specs.declared.Traffic.{Traffic}
+use lib.ListN.{length, getD, drop}
+use Rattle.layout.specs.Layout.{size}
 use Rattle.road.specs.declared.Source.{Source}
 use Rattle.road.specs.declared.Verdict.{Verdict}
 use Rattle.road.specs.declared.Verdict.the-variants.{Allowed}
+use Rattle.road.specs.Fields.{sourceTable, receiverTable, sourceOf, receiverOf, bitsBy}
 use Rattle.road.specs.Judge.{sourceFields, receiverFields, sourceVerdict, receiverVerdict, slotVerdict}
 use Rattle.codec.specs.declared.Request.{Request}
 use Rattle.codec.specs.declared.Request.the-variants.{PlaceReceiver, WithdrawReceiver, PlaceSource, WithdrawSource, Ask}
 
--- ---- from fields to a call: the kind stands at place 0, and field i at place i
+-- ---- what every record begins with, in bits: its kind, and field 1, the slot of a source or of a receiver
 
--- what stands at a place
-abbrev pub at : List ℕ → ℕ → ℕ
-at v i = getD v i 0
+abbrev pub kindBits : ℕ
+kindBits = 4
 
-abbrev pub receiverIn : (ℕ → ℕ) → Receiver
-receiverIn field = record { x = field 2; y = field 3; height = field 4 }
+abbrev pub sourceSlotBits : ℕ
+sourceSlotBits = 9
 
--- by day, in the evening and at night
-abbrev pub trafficIn : (ℕ → ℕ) → List Traffic
-trafficIn field =
-    record { m = field 14; p = field 15 } ∷ record { m = field 16; p = field 17 } ∷ record { m = field 18; p = field 19 } ∷ []
-
-abbrev pub sourceIn : (ℕ → ℕ) → Source
-sourceIn field =
-    record {
-      x = field 2;
-      y = field 3;
-      length = field 4;
-      lanes = field 5;
-      car = field 6;
-      truck = field 7;
-      surface = field 8;
-      gradient = field 9;
-      reflection = field 10;
-      walls = field 11;
-      height = field 12;
-      spacing = field 13;
-      traffic = trafficIn field;
-    }
-
--- what stands beside a call that places no source
-abbrev pub blank : Source
-blank = sourceIn (λ i. 0)
+abbrev pub receiverSlotBits : ℕ
+receiverSlotBits = 6
 
 -- ---- the table
 
@@ -55,38 +30,46 @@ pub record Kind : Type 0 where
   pub widths : List ℕ
   -- how many fields there are
   pub fields : ℕ
-  -- what they ask for, and the source beside it
-  pub call : (ℕ → ℕ) → Request
-  pub source : (ℕ → ℕ) → Source
+  -- what the slot and the fields after it ask for
+  pub call : ℕ → List ℕ → Request
+  -- the source beside it, by the fields after the slot
+  pub source : List ℕ → Source
 
--- a row of the table
-abbrev pub kind : List ℕ → ℕ → ((ℕ → ℕ) → Request) → ((ℕ → ℕ) → Source) → Kind
-kind ws n f g = record { widths = ws; fields = n; call = f; source = g }
+-- a row of the table, by the bits of its slot, of the fields after it, and of what is left over
+abbrev pub kind : ℕ → List ℕ → List ℕ → (ℕ → List ℕ → Request) → (List ℕ → Source) → Kind
+kind slot ws left f g = record { widths = kindBits ∷ slot ∷ (ws ++ left); fields = suc (length ws); call = f; source = g }
+
+-- what stands beside a call that places no source
+abbrev pub blank : Source
+blank = sourceOf []
 
 -- what stands for every kind that has no row: it has no bytes, and so is refused
 abbrev pub unlisted : Kind
-unlisted = kind [] 0 (λ field. Ask (field 1)) (λ field. blank)
+unlisted = record { widths = []; fields = 0; call = λ slot v. Ask slot; source = λ v. blank }
 
 -- row k is kind k; there is no kind 0
 abbrev pub kinds : List Kind
 kinds =
     unlisted
     -- 1: place receiver, 9 bytes
-    ∷ kind (4 ∷ 6 ∷ 24 ∷ 24 ∷ 9 ∷ 5 ∷ []) 4 (λ field. PlaceReceiver (field 1) (receiverIn field)) (λ field. blank)
+    ∷ kind receiverSlotBits (bitsBy receiverTable) (5 ∷ []) (λ slot v. PlaceReceiver slot (receiverOf v)) (λ v. blank)
     -- 2: withdraw receiver, 2 bytes
-    ∷ kind (4 ∷ 6 ∷ 6 ∷ []) 1 (λ field. WithdrawReceiver (field 1)) (λ field. blank)
+    ∷ kind receiverSlotBits [] (6 ∷ []) (λ slot v. WithdrawReceiver slot) (λ v. blank)
     -- 3: place source, 30 bytes
-    ∷ kind (4 ∷ 9 ∷ 24 ∷ 24 ∷ 17 ∷ 1 ∷ 8 ∷ 8 ∷ 4 ∷ 8 ∷ 3 ∷ 2 ∷ 12 ∷ 14 ∷ 24 ∷ 10 ∷ 24 ∷ 10 ∷ 24 ∷ 10 ∷ []) 19
-    (λ field. PlaceSource (field 1)) sourceIn
+    ∷ kind sourceSlotBits (bitsBy sourceTable) [] (λ slot v. PlaceSource slot) sourceOf
     -- 4: withdraw source, 2 bytes
-    ∷ kind (4 ∷ 9 ∷ 3 ∷ []) 1 (λ field. WithdrawSource (field 1)) (λ field. blank)
+    ∷ kind sourceSlotBits [] (3 ∷ []) (λ slot v. WithdrawSource slot) (λ v. blank)
     -- 5: ask, 2 bytes
-    ∷ kind (4 ∷ 6 ∷ 6 ∷ []) 1 (λ field. Ask (field 1)) (λ field. blank)
+    ∷ kind receiverSlotBits [] (6 ∷ []) (λ slot v. Ask slot) (λ v. blank)
     ∷ []
 
--- no record is longer, in bytes
+-- the bytes of the longest record: 30
+abbrev pub longestOf : List Kind → ℕ
+longestOf [] = 0
+longestOf (k ∷ ks) = max (size (k .widths)) (longestOf ks)
+
 abbrev pub longestRecord : ℕ
-longestRecord = 30
+longestRecord = longestOf kinds
 
 unfoldable pub kindAt : ℕ → Kind
 kindAt k = getD kinds k unlisted
@@ -95,18 +78,30 @@ kindAt k = getD kinds k unlisted
 abbrev pub layoutOf : ℕ → List ℕ
 layoutOf k = kindAt k .widths
 
+-- ---- the numbers of a record: the kind stands at place 0, and field i at place i
+
+abbrev pub at : List ℕ → ℕ → ℕ
+at v i = getD v i 0
+
+-- what those of kind k ask for, and the source beside it
+abbrev pub callIn : ℕ → List ℕ → Request
+callIn k v = kindAt k .call (at v 1) (drop 2 v)
+
+abbrev pub sourceIn : ℕ → List ℕ → Source
+sourceIn k v = kindAt k .source (drop 2 v)
+
 -- the leftover bits stand after the last field
 abbrev pub leftoverOf : ℕ → List ℕ → ℕ
 leftoverOf k v = at v (suc (kindAt k .fields))
 
 -- ---- of a call
 
--- the last slots that 9 and 6 bits can name, however many slots a book has
+-- the last slots that their bits can name, however many slots a book has
 abbrev pub lastNamedSource : ℕ
-lastNamedSource = 2 ^ 9 - 1
+lastNamedSource = 2 ^ sourceSlotBits - 1
 
 abbrev pub lastNamedReceiver : ℕ
-lastNamedReceiver = 2 ^ 6 - 1
+lastNamedReceiver = 2 ^ receiverSlotBits - 1
 
 -- whether it is allowed, by the limits of slots, receivers and sources: refusals 5, 6 and 7
 unfoldable pub verdictOf : Request → Source → Verdict

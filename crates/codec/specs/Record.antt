@@ -19,13 +19,13 @@ use Rattle.codec.specs.declared.Told.the-variants as told
 use Rattle.codec.specs.declared.Reading.{Reading}
 use Rattle.codec.specs.declared.Written.{Written}
 use Rattle.codec.specs.declared.Written.the-variants as written
-use Rattle.codec.specs.Kinds.{at, blank, kindAt, layoutOf, leftoverOf, verdictOf, kindNumber, fieldsOf}
+use Rattle.codec.specs.Kinds.{kindBits, blank, layoutOf, callIn, sourceIn, leftoverOf, verdictOf, kindNumber, fieldsOf}
 
 -- ---- the record at the front of the bytes s
 
--- its kind is the first four bits
+-- its kind is its first bits
 abbrev pub kindOf : List ℕ → ℕ
-kindOf s = bits 0 4 s
+kindOf s = bits 0 kindBits s
 
 -- how many bytes it takes by its kind: none where the kind is not listed
 abbrev pub lengthOf : List ℕ → ℕ
@@ -68,7 +68,7 @@ heardBy call source = judged (verdictOf call source) call source
 
 -- what the fields of kind k ask for, if it is allowed
 abbrev pub heard : ℕ → List ℕ → Reading
-heard k v = heardBy (kindAt k .call (at v)) (kindAt k .source (at v))
+heard k v = heardBy (callIn k v) (sourceIn k v)
 
 -- the record at the front, or the lowest refusal that applies
 unfoldable pub readOf : List ℕ → Reading

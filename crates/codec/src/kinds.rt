@@ -1,9 +1,7 @@
 // The kinds of record: the layout of each, its call, which calls are allowed, and the fields of a call.
 // A new kind is a new row of the tables and a new arm of each match.
 use crate::Request;
-use road::Receiver;
 use road::Source;
-use road::Traffic;
 use road::Verdict;
 use road::fields;
 use road::judge;
@@ -13,51 +11,58 @@ ghost use Prim.Native.Nat.{_≤_, _<_};
 ghost use lib.ListN.{length};
 ghost use Rattle.level.specs.Table.{table};
 ghost use Rattle.layout.specs.Layout.{size, Within};
-ghost use Rattle.codec.specs.Kinds.{at, kindAt, layoutOf, receiverIn, trafficIn, sourceIn, verdictOf, kindNumber, fieldsOf};
+ghost use Rattle.codec.specs.Kinds.{kindAt, layoutOf, callIn, sourceIn, verdictOf, kindNumber, fieldsOf};
 ghost use Rattle.codec.specs.Kinds as kinds;
-ghost use Rattle.codec.specs.Inner.{allWidths, filled, firstOf, shapeOf};
+ghost use Rattle.codec.specs.Inner.{allWidths, filled, shapeOf};
+
+// What every record begins with, in bits: its kind, and the slot of a source or of a receiver.
+pub const KIND_BITS: u8 = 4;
+
+const SOURCE_SLOT_BITS: u8 = 9;
+
+const RECEIVER_SLOT_BITS: u8 = 6;
 
 // The widths in bits of one kind after the other: the kind itself, its fields, and its leftover bits where there are any.
 const WIDTHS: [u8; 35] = [
     // 1: place receiver
-    4,
-    6,
-    24,
-    24,
-    9,
+    KIND_BITS,
+    RECEIVER_SLOT_BITS,
+    fields::RECEIVER[0][fields::BITS] as u8,
+    fields::RECEIVER[1][fields::BITS] as u8,
+    fields::RECEIVER[2][fields::BITS] as u8,
     5,
     // 2: withdraw receiver
-    4,
-    6,
+    KIND_BITS,
+    RECEIVER_SLOT_BITS,
     6,
     // 3: place source
-    4,
-    9,
-    24,
-    24,
-    17,
-    1,
-    8,
-    8,
-    4,
-    8,
-    3,
-    2,
-    12,
-    14,
-    24,
-    10,
-    24,
-    10,
-    24,
-    10,
+    KIND_BITS,
+    SOURCE_SLOT_BITS,
+    fields::SOURCE[0][fields::BITS] as u8,
+    fields::SOURCE[1][fields::BITS] as u8,
+    fields::SOURCE[2][fields::BITS] as u8,
+    fields::SOURCE[3][fields::BITS] as u8,
+    fields::SOURCE[4][fields::BITS] as u8,
+    fields::SOURCE[5][fields::BITS] as u8,
+    fields::SOURCE[6][fields::BITS] as u8,
+    fields::SOURCE[7][fields::BITS] as u8,
+    fields::SOURCE[8][fields::BITS] as u8,
+    fields::SOURCE[9][fields::BITS] as u8,
+    fields::SOURCE[10][fields::BITS] as u8,
+    fields::SOURCE[11][fields::BITS] as u8,
+    fields::SOURCE[12][fields::BITS] as u8,
+    fields::SOURCE[13][fields::BITS] as u8,
+    fields::SOURCE[14][fields::BITS] as u8,
+    fields::SOURCE[15][fields::BITS] as u8,
+    fields::SOURCE[16][fields::BITS] as u8,
+    fields::SOURCE[17][fields::BITS] as u8,
     // 4: withdraw source
-    4,
-    9,
+    KIND_BITS,
+    SOURCE_SLOT_BITS,
     3,
     // 5: ask
-    4,
-    6,
+    KIND_BITS,
+    RECEIVER_SLOT_BITS,
     6,
 ];
 
@@ -73,10 +78,13 @@ const FIELDS: [usize; 6] = [0, 4, 1, 19, 1, 1];
 // How many bytes.
 const BYTES: [usize; 6] = [0, 9, 2, 30, 2, 2];
 
-// The last slots that 9 and 6 bits can name, however many slots a book has.
-const LAST_NAMED_SOURCE: u16 = 511;
+// The last slots that their bits can name, however many slots a book has.
+const LAST_NAMED_SOURCE: u16 = (1 << SOURCE_SLOT_BITS) - 1;
 
-const LAST_NAMED_RECEIVER: u16 = 63;
+const LAST_NAMED_RECEIVER: u16 = (1 << RECEIVER_SLOT_BITS) - 1;
+
+// Where the fields after the slot start among the numbers of a record.
+const FIRST: usize = 2;
 
 // The sizes of a kind's layout.
 pub struct Shape {
@@ -128,25 +136,14 @@ pub fn layout_of(widths: &[u8], kind: usize) -> &[u8]
     &widths[start..end]
 }
 
-// The receiver of a receiver's fields.
-fn receiver_in(v: &[u64; 25]) -> Receiver
-    requires { ⌜ Within (layoutOf 1) (firstOf 1 (now v)) ⌝ }
-    ensures { λ r. ⌜ r ≡ receiverIn (at (now (v .entry))) ⌝ }
-{
-    let x = v[2] as u32;
-    let y = v[3] as u32;
-    let height = v[4] as u16;
-    Receiver { x, y, height }
-}
-
 // What the fields of a kind ask for.
-pub fn call(kind: usize, v: &[u64; 25]) -> Request
-    requires { ⌜ (0 < size (layoutOf kind)) × Within (layoutOf kind) (firstOf kind (now v)) ⌝ }
-    ensures { λ r. ⌜ r ≡ kindAt kind .call (at (now (v .entry))) ⌝ }
+pub fn call(kind: usize, v: &[u64]) -> Request
+    requires { ⌜ (0 < size (layoutOf kind)) × Within (layoutOf kind) (now v) ⌝ }
+    ensures { λ r. ⌜ r ≡ callIn kind (now (v .entry)) ⌝ }
 {
     let slot = v[1] as u16;
     match kind {
-        1 => Request::PlaceReceiver(slot, receiver_in(v)),
+        1 => Request::PlaceReceiver(slot, fields::receiver_of(v, FIRST)),
         2 => Request::WithdrawReceiver(slot),
         3 => Request::PlaceSource(slot),
         4 => Request::WithdrawSource(slot),
@@ -197,90 +194,17 @@ pub fn number(call: Request) -> usize
 pub fn blank() -> Source
     ensures { λ r. ⌜ r ≡ kinds.blank ⌝ }
 {
-    let none = Traffic { m: 0, p: 0 };
-    let traffic = [none, none, none];
-    Source {
-        x: 0,
-        y: 0,
-        length: 0,
-        lanes: 0,
-        car: 0,
-        truck: 0,
-        surface: 0,
-        gradient: 0,
-        reflection: 0,
-        walls: 0,
-        height: 0,
-        spacing: 0,
-        traffic,
-    }
-}
-
-// The traffic of a source's fields, by day, in the evening and at night.
-fn traffic_in(v: &[u64; 25]) -> [Traffic; 3]
-    requires { ⌜ Within (layoutOf 3) (firstOf 3 (now v)) ⌝ }
-    ensures { λ r. ⌜ r ≡ trafficIn (at (now (v .entry))) ⌝ }
-{
-    let day_m = v[14] as u32;
-    let day_p = v[15] as u16;
-    let evening_m = v[16] as u32;
-    let evening_p = v[17] as u16;
-    let night_m = v[18] as u32;
-    let night_p = v[19] as u16;
-    let day = Traffic { m: day_m, p: day_p };
-    let evening = Traffic {
-        m: evening_m,
-        p: evening_p,
-    };
-    let night = Traffic {
-        m: night_m,
-        p: night_p,
-    };
-    [day, evening, night]
-}
-
-// The source of a source's fields.
-fn source_in(v: &[u64; 25]) -> Source
-    requires { ⌜ Within (layoutOf 3) (firstOf 3 (now v)) ⌝ }
-    ensures { λ r. ⌜ r ≡ sourceIn (at (now (v .entry))) ⌝ }
-{
-    let x = v[2] as u32;
-    let y = v[3] as u32;
-    let length = v[4] as u32;
-    let lanes = v[5] as u8;
-    let car = v[6] as u8;
-    let truck = v[7] as u8;
-    let surface = v[8] as u8;
-    let gradient = v[9] as u8;
-    let reflection = v[10] as u8;
-    let walls = v[11] as u8;
-    let height = v[12] as u16;
-    let spacing = v[13] as u16;
-    let traffic = traffic_in(v);
-    Source {
-        x,
-        y,
-        length,
-        lanes,
-        car,
-        truck,
-        surface,
-        gradient,
-        reflection,
-        walls,
-        height,
-        spacing,
-        traffic,
-    }
+    let none = [0u64; 18];
+    fields::source_of(&none, 0)
 }
 
 // The source beside the call that the fields of a kind ask for.
-pub fn source(kind: usize, v: &[u64; 25]) -> Source
-    requires { ⌜ Within (layoutOf kind) (firstOf kind (now v)) ⌝ }
-    ensures { λ r. ⌜ r ≡ kindAt kind .source (at (now (v .entry))) ⌝ }
+pub fn source(kind: usize, v: &[u64]) -> Source
+    requires { ⌜ Within (layoutOf kind) (now v) ⌝ }
+    ensures { λ r. ⌜ r ≡ sourceIn kind (now (v .entry)) ⌝ }
 {
     if kind == 3 {
-        return source_in(v);
+        return fields::source_of(v, FIRST);
     }
     blank()
 }
@@ -301,14 +225,14 @@ fn join(kind: u64, slot: u16, fields: &[u64]) -> [u64; 25]
     v
 }
 
-// The kind, the fields and the leftover bits of a call, with zeros after them.
+// The kind, the fields and the leftover bits of a call, with zeros after them. A receiver's leftover bits are the first of these.
 pub fn fields_of(call: Request, source: Source) -> [u64; 25]
     ensures { λ r. ⌜ r ≡ filled (fieldsOf call source) ⌝ }
 {
     let leftover = [0u64; 1];
     match call {
         Request::PlaceReceiver(slot, r) => {
-            let fields = [r.x as u64, r.y as u64, r.height as u64, 0];
+            let fields = fields::receiver_values(r);
             join(1, slot, &fields)
         }
         Request::WithdrawReceiver(slot) => join(2, slot, &leftover),

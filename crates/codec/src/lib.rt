@@ -50,7 +50,7 @@ fn kind_of(job: &[u8]) -> usize
     if job.len() == 0 {
         return 0;
     }
-    let kind = layout::field(job, 0, 4);
+    let kind = layout::field(job, 0, kinds::KIND_BITS as usize);
     kind as usize
 }
 
@@ -88,9 +88,9 @@ fn refuse(why: Refusal) -> Reading
 }
 
 // What fields tell: their call, if it is allowed.
-fn hear(steps: &[u32; 1000], kind: usize, v: &[u64; 25]) -> Reading
+fn hear(steps: &[u32; 1000], kind: usize, v: &[u64]) -> Reading
     requires { ⌜ now steps ≡ table ⌝ }
-    requires { ⌜ (0 < size (layoutOf kind)) × Within (layoutOf kind) (firstOf kind (now v)) ⌝ }
+    requires { ⌜ (0 < size (layoutOf kind)) × Within (layoutOf kind) (now v) ⌝ }
     ensures { λ r. ⌜ r ≡ heard kind (now (v .entry)) ⌝ }
 {
     let call = kinds::call(kind, v);
@@ -113,6 +113,7 @@ pub fn read(steps: &[u32; 1000], job: &[u8]) -> Reading
     let shape = kinds::shape_of(kind);
     let bytes = shape.bytes;
     let fields = shape.fields;
+    let count = shape.count;
     if (job.len() == 0) | (job.len() < bytes) {
         return refuse(Refusal::CutShort);
     }
@@ -124,7 +125,7 @@ pub fn read(steps: &[u32; 1000], job: &[u8]) -> Reading
     if 0 < leftover {
         return refuse(Refusal::Leftover);
     }
-    hear(steps, kind, &v)
+    hear(steps, kind, &v[..count])
 }
 
 // Writes fields of a kind at the front of out; the bytes past the record stay.

@@ -17,7 +17,7 @@ use Rattle.codec.specs.declared.Request.{Request}
 use Rattle.codec.specs.declared.Reading.{Reading}
 use Rattle.codec.specs.declared.Written.{Written}
 use Rattle.codec.specs.declared.Written.the-variants as written
-use Rattle.codec.specs.Kinds.{at, kindAt, verdictOf}
+use Rattle.codec.specs.Kinds.{callIn, sourceIn, verdictOf}
 use Rattle.codec.specs.Record.{kindOf, valuesOf, cutShort, unknownKind, leftoverSet, judged, readOf, recordOf, writtenBy, writeOf, numberTold, numberWritten}
 use Rattle.codec.proofs.Numbers.{verdict-by}
 use Rattle.record.specs.Numbers.{ReaderNumber, WriterNumber, Numbers}
@@ -38,8 +38,8 @@ judged-read (verdict.Refused why) c s n = inr (omega (arith, n .0), n .1)
 reader : (job : List ℕ) → Read (readOf job)
 unfolding readOf
 reader job =
-    let c = kindAt (kindOf job) .call (at (valuesOf job)) in
-    let s = kindAt (kindOf job) .source (at (valuesOf job)) in
+    let c = callIn (kindOf job) (valuesOf job) in
+    let s = sourceIn (kindOf job) (valuesOf job) in
     either-read (cutShort job) _ _ (inr (omega arith, omega arith))
     (either-read (unknownKind job) _ _ (inr (omega arith, omega arith))
     (either-read (leftoverSet job) _ _ (inr (omega arith, omega arith)) (judged-read (verdictOf c s) c s (verdict-by c s))))

@@ -21,7 +21,7 @@ use Rattle.codec.specs.declared.Request.{Request}
 use Rattle.codec.specs.declared.Told.{Told}
 use Rattle.codec.specs.declared.Told.the-variants as told
 use Rattle.codec.specs.declared.Reading.{Reading}
-use Rattle.codec.specs.Kinds.{at, kindAt, verdictOf}
+use Rattle.codec.specs.Kinds.{callIn, sourceIn, verdictOf}
 use Rattle.codec.specs.Record.{kindOf, lengthOf, valuesOf, cutShort, unknownKind, leftoverSet, judged, heard, readOf, extentOf}
 use Rattle.codec.proofs.Laws.{extent-whole, extent-none, uncut, read-cut, read-unknown, read-leftover, read-heard}
 use Rattle.codec.proofs.Numbers.{verdict-by}
@@ -97,8 +97,8 @@ module _ (s store : List ℕ) (d : damaged store ≡ false) where
         go : (b : Bool) → leftoverSet s ≡ b → Apart number
         go true l = inr (omega (arith, refused-number Leftover (sym (ap (λ (r : Reading). r .told) (read-leftover s e f l)))))
         go false l =
-            let c = kindAt (kindOf s) .call (at (valuesOf s)) in
-            let q = kindAt (kindOf s) .source (at (valuesOf s)) in
+            let c = callIn (kindOf s) (valuesOf s) in
+            let q = sourceIn (kindOf s) (valuesOf s) in
             judged-number (verdictOf c q) c q (verdict-by c q) (read-heard s e f l)
 
     stops-only : Stopping number → extentOf s ≡ 0

@@ -31,7 +31,7 @@ returns c =
     let p = c .before .before .before .before in
     let s = p .before .source in
     let d = p .before .before .call in
-    let a = p .before .before .before .args in
+    let a = p .before .before .before .before .args in
     c .refuse .ensures
     ∙ heard-refused (a .kind) (now (a .v)) (d .result) (s .result) (d .ensures) (s .ensures) (w .0 .0) (sym (p .verdict .ensures) ∙ w .1)
 
@@ -40,7 +40,7 @@ returns-2 c =
     let p = c .before .before in
     let s = p .before .source in
     let d = p .before .before .call in
-    let a = p .before .before .before .args in
+    let a = p .before .before .before .before .args in
     heard-allowed (a .kind) (now (a .v)) (d .result) (s .result) (d .ensures) (s .ensures) (sym (p .verdict .ensures) ∙ c .enum-told .given .1)
 
 pub hear-spec : {M : Type 1} → statement M

@@ -1,4 +1,4 @@
--- `kind_of` reads the first four bits; without a byte there is no kind.
+-- `kind_of` reads the first bits; without a byte there is no kind.
 -- Assumes nothing.
 use denote.Ref.{now}
 use Rattle.codec.proofs.Laws.{no-kind}
@@ -9,6 +9,9 @@ use Rattle.codec.proofs.kind_of.Tie as tie
 returns : tie.Need-returns
 returns c = no-kind (now (c .before .before .args .job)) (c .if1 .taken)
 
+cast-field : tie.Need-cast-field
+cast-field c = search needs
+
 field-requires : tie.Need-field-requires
 field-requires c κs = search needs
 
@@ -16,4 +19,4 @@ returns-2 : tie.Need-returns-2
 returns-2 c = search needs
 
 pub kind-of-spec : {M : Type 1} → statement M
-kind-of-spec = tie.close (tie.spec returns field-requires returns-2)
+kind-of-spec = tie.close (tie.spec returns cast-field field-requires returns-2)

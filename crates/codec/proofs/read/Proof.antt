@@ -3,19 +3,18 @@
 use Prim.Native.Nat.{ℕ, _+_}
 use mathlib.Core.Path.{_≡_, sym, ap, _∙_, subst}
 use mathlib.Core.Bool.{true, false, _||_}
-use mathlib.Core.List.{List}
 use native.Mathlib.Omega.{arith}
 use denote.Ref.{now}
 use borrow.Author.Tests.{lt-ltb, le-ltb, eq-eqb, ne-eqb}
 use lib.Dec.{ltb, eqb}
 use lib.ListN.{length}
 use Rattle.layout.specs.Layout.{size, fields, Within}
+use Rattle.layout.proofs.Laws.{length-fields, fields-within}
 use Rattle.codec.specs.declared.kinds.Shape.{Shape}
 use Rattle.codec.specs.Kinds.{at, layoutOf, leftoverOf}
 use Rattle.codec.specs.Record.{kindOf, lengthOf, valuesOf, cutShort, unknownKind, heard}
-use Rattle.codec.specs.Inner.{firstOf}
-use Rattle.codec.proofs.Rows.{row-fields}
-use Rattle.codec.proofs.Laws.{uncut, values-within, heard-filled, leftover-at, read-cut, read-unknown, read-leftover, read-heard}
+use Rattle.codec.proofs.Rows.{row-count, row-fields}
+use Rattle.codec.proofs.Laws.{first-values, uncut, leftover-at, read-cut, read-unknown, read-leftover, read-heard}
 use borrow.Author.Needs.{needs}
 use Rattle.codec.proofs.read.Statement.{statement}
 use Rattle.codec.proofs.read.Tie as tie
@@ -90,21 +89,33 @@ returns-3 c =
     leftover-at s (v .result) j f k (v .ensures) (ap (λ (x : Shape). x .fields) (p .shape-of .ensures)) in
     c .refuse3 .ensures ∙ read-leftover s cut known (ap (ltb 0) (sym left) ∙ lt-ltb 0 _ (c .before .if3 .taken))
 
+array-share-prefix-v : tie.Need-array-share-prefix-v
+array-share-prefix-v c =
+    let p = c .before .before .before .before in
+    omega (arith, row-count (p .before .kind-of .result), ap (λ (x : Shape). x .count) (p .shape-of .ensures))
+
+slice-aggregate-hear : tie.Need-slice-aggregate-hear
+slice-aggregate-hear c =
+    let p = c .before .before .before .before .before in
+    let v = c .before .before .values in
+    let j = p .before .kind-of .result in
+    let n = p .shape-of .result .count in
+    let s = now (p .before .before .before .args .job) in
+    let e : n ≡ length (layoutOf j) = ap (λ (x : Shape). x .count) (p .shape-of .ensures) in
+    e ∙ sym (length-fields (layoutOf j) s) ∙ sym (ap length (first-values j n s (v .result) e (v .ensures)))
+
 hear-requires : tie.Need-hear-requires
 hear-requires c κs =
     let p = c .before .before .before .before .before in
+    let v = c .before .before .values in
     let s = now (p .before .before .before .args .job) in
     let j = p .before .kind-of .result in
     let k = p .before .kind-of .ensures in
     let n : p .shape-of .result .bytes ≡ lengthOf s = ap (λ (x : Shape). x .bytes) (p .shape-of .ensures) ∙ ap (λ (i : ℕ). size (layoutOf i)) k in
     let e : size (layoutOf j) ≡ lengthOf s = ap (λ (i : ℕ). size (layoutOf i)) k in
-    let z : lengthOf s ≡ 0 → ⊥ = λ h. c .before .before .before .if2 .left (n ∙ h) in (
-      c .before .before .before .before .before .before .before .before .pre,
-      (
-        omega arith,
-        subst (λ (v : List ℕ). Within (layoutOf j) (firstOf j v)) (sym (c .before .before .values .ensures)) (values-within j s),
-      ),
-    )
+    let z : lengthOf s ≡ 0 → ⊥ = λ h. c .before .before .before .if2 .left (n ∙ h) in
+    let f = first-values j (p .shape-of .result .count) s (v .result) (ap (λ (x : Shape). x .count) (p .shape-of .ensures)) (v .ensures) in
+    (p .before .before .before .pre, (omega arith, subst (Within (layoutOf j)) (sym f) (fields-within (layoutOf j) s)))
 
 returns-4 : tie.Need-returns-4
 returns-4 c =
@@ -119,7 +130,8 @@ returns-4 c =
     let f = p .shape-of .result .fields in
     let left : at (v .result) (f + 1) ≡ leftoverOf (kindOf s) (valuesOf s) =
     leftover-at s (v .result) j f k (v .ensures) (ap (λ (x : Shape). x .fields) (p .shape-of .ensures)) in
-    c .hear .ensures ∙ ap (heard j) (v .ensures) ∙ heard-filled j (fields (layoutOf j) s)
+    c .hear .ensures
+    ∙ ap (heard j) (first-values j (p .shape-of .result .count) s (v .result) (ap (λ (x : Shape). x .count) (p .shape-of .ensures)) (v .ensures))
     ∙ ap (λ (i : ℕ). heard i (fields (layoutOf i) s)) k
     ∙ read-heard s cut known (ap (ltb 0) (sym left) ∙ le-ltb 0 _ (c .before .before .if3 .left))
 
@@ -139,5 +151,7 @@ read-spec =
     array-read-leftover
     refuse-requires-3
     returns-3
+    array-share-prefix-v
+    slice-aggregate-hear
     hear-requires
     returns-4)

@@ -1,4 +1,4 @@
--- `fields_of` joins the fields of each call.
+-- `fields_of` joins the fields of each call. A receiver's leftover bits are among the zeros after its fields.
 -- Assumes nothing.
 use Prim.Native.Nat.{ℕ}
 use mathlib.Core.Path.{sym, ap, _∙_}
@@ -13,14 +13,8 @@ use Rattle.codec.proofs.kinds.fields_of.Tie as tie
 enum-known-call : tie.Need-enum-known-call
 enum-known-call c = search needs
 
-cast-t13 : tie.Need-cast-t13
-cast-t13 c = search needs
-
-cast-t14 : tie.Need-cast-t14
-cast-t14 c = search needs
-
-cast-t15 : tie.Need-cast-t15
-cast-t15 c = search needs
+receiver-values-requires : tie.Need-receiver-values-requires
+receiver-values-requires c κs = search needs
 
 slice-aggregate-join : tie.Need-slice-aggregate-join
 slice-aggregate-join c = search needs
@@ -68,9 +62,12 @@ join-requires-5 : tie.Need-join-requires-5
 join-requires-5 c κs = search needs
 
 returns : tie.Need-returns
+unfolding filled
 returns c =
-    let a = c .before .before .before .before .before .before .before .before .args in
-    c .join .ensures ∙ ap (λ (x : Request). filled (fieldsOf x (a .source))) (sym (c .before .before .before .before .before .before .call .given .1))
+    let a = c .before .before .before .before .before .before .args in
+    let k = c .before .before .before .before .call .given in
+    c .join .ensures ∙ ap (λ (l : List ℕ). filled (1 ∷ k .0 .0 ∷ l)) (c .before .before .receiver-values .ensures)
+    ∙ ap (λ (x : Request). filled (fieldsOf x (a .source))) (sym (k .1))
 
 returns-2 : tie.Need-returns-2
 returns-2 c =
@@ -80,7 +77,9 @@ returns-2 c =
 returns-3 : tie.Need-returns-3
 returns-3 c =
     let a = c .before .before .before .before .before .before .args in
-    c .join3 .ensures ∙ ap (λ (l : List ℕ). filled (3 ∷ c .before .before .before .before .call3 .given .0 .0 ∷ l)) (c .before .before .source-values .ensures) ∙ ap (λ (x : Request). filled (fieldsOf x (a .source))) (sym (c .before .before .before .before .call3 .given .1))
+    let k = c .before .before .before .before .call3 .given in
+    c .join3 .ensures ∙ ap (λ (l : List ℕ). filled (3 ∷ k .0 .0 ∷ l)) (c .before .before .source-values .ensures)
+    ∙ ap (λ (x : Request). filled (fieldsOf x (a .source))) (sym (k .1))
 
 returns-4 : tie.Need-returns-4
 returns-4 c =
@@ -97,9 +96,7 @@ fields-of-spec =
     tie.close
     (tie.spec
     enum-known-call
-    cast-t13
-    cast-t14
-    cast-t15
+    receiver-values-requires
     slice-aggregate-join
     join-requires
     enum-known-call-2
