@@ -19,7 +19,9 @@ use Rattle.layout.specs.Over.{over}
 use Rattle.layout.proofs.Numbers.{bytes-append, bytes-take, bytes-drop}
 use Rattle.layout.proofs.Bounds.{both}
 use Rattle.layout.proofs.Laws.{length-fields, fields-within, length-packed, packed-bytes, fields-packed, packed-fields, packed-zeros, fields-zeros}
-use Rattle.store.specs.Slots.{Party, Slot, Fit, empty, used, torn, allZero, partyLayout, slotSize, slotBy, slotOf, slotBytes, isTorn, entryOf, slotAt, slots, entries, anyTorn, bytes, Each}
+use Rattle.road.specs.Fields.{Fit}
+use Rattle.road.proofs.Rows.{record-fit}
+use Rattle.store.specs.Slots.{Party, Slot, empty, used, torn, allZero, partyLayout, slotSize, slotBy, slotOf, slotBytes, isTorn, entryOf, slotAt, slots, entries, anyTorn, bytes, Each}
 
 pub either-false : (x y : Bool) → (x || y) ≡ false → (x ≡ false) × (y ≡ false)
 either-false true y e = absurd (true≢false e)
@@ -35,6 +37,10 @@ zeros-are : (n : ℕ) → allZero (replicate n 0) ≡ true
 zeros-are zero = refl
 zeros-are (suc n) = zeros-are n
 
+mark-shows : (vs : List ℕ) → getD vs 0 0 ≡ 1 → allZero vs ≡ false
+mark-shows [] e = absurd (omega arith)
+mark-shows (v ∷ vs) e = ap (λ (m : ℕ). eqb m 0 && allZero vs) e
+
 pub alike-bytes : (n x : ℕ) → x < 256 → Bytes (replicate n x)
 alike-bytes zero x h i = lit< tt
 alike-bytes (suc n) x h zero = h
@@ -44,18 +50,18 @@ pub zeros-within : (ws : List ℕ) → Within ws (replicate (length ws) 0)
 zeros-within [] = tt
 zeros-within (w ∷ ws) = (pow-pos w, zeros-within ws)
 
--- numbers that have the widths of a layout, one by one
-fit-behind : (ws : List ℕ) (k x : ℕ) (vs : List ℕ) → Fit ws k vs → Fit ws (suc k) (x ∷ vs)
-fit-behind [] k x vs h = tt
-fit-behind (w ∷ ws) k x vs h = (h .0, fit-behind ws (suc k) x vs (h .1))
+pub two-within : (ws us vs xs : List ℕ) → Within ws vs → Within us xs → Within (ws ++ us) (vs ++ xs)
+two-within [] us [] xs h l = l
+two-within [] us (v ∷ vs) xs h l = absurd h
+two-within (w ∷ ws) us [] xs h l = absurd h
+two-within (w ∷ ws) us (v ∷ vs) xs h l = (h .0, two-within ws us vs xs (h .1) l)
 
-pub within-fit : (ws vs : List ℕ) → Within ws vs → Fit ws 0 vs
-within-fit [] vs h = tt
-within-fit (w ∷ ws) [] h = absurd h
-within-fit (w ∷ ws) (v ∷ vs) h = (h .0, fit-behind ws 0 v vs (within-fit ws vs (h .1)))
-
+-- numbers that were read have the widths of their layout, one by one
 pub fields-fit : (ws s v : List ℕ) → v ≡ fields ws s → Fit ws 0 v
-fields-fit ws s v e = subst (Fit ws 0) (sym e) (within-fit ws (fields ws s) (fields-within ws s))
+fields-fit ws s v e =
+    record-fit ws v
+    (subst (λ (t : List ℕ). Within ws (take (length ws) t)) (sym e)
+    (subst (Within ws) (sym (take-all (length ws) (fields ws s) (omega (arith, length-fields ws s)))) (fields-within ws s)))
 
 -- a write over the first of two lists, and behind it
 over-first : (t x s : List ℕ) → length x ≡ length t → over 0 t (x ++ s) ≡ t ++ s
@@ -120,17 +126,18 @@ module _ {A : Type 0} (p : Party A) where
   unfolding slotBy
   unused vs e = simp e
 
-  -- the tests of the code, in its order
-  pub torn-blank : (vs : List ℕ) → allZero vs ≡ true → isTorn (slotBy p vs) ≡ false
-  torn-blank vs e = ap isTorn (unused vs e)
-
-  pub torn-mark : (vs : List ℕ) → allZero vs ≡ false → (getD vs 0 0 ≡ 1 → ⊥) → isTorn (slotBy p vs) ≡ true
+  -- the tests of the code, in its order: without the mark 1 zeros decide, with it what may be in the book
+  pub torn-unmarked : (vs : List ℕ) → (getD vs 0 0 ≡ 1 → ⊥) → isTorn (slotBy p vs) ≡ not (allZero vs)
   unfolding slotBy
-  torn-mark vs e f = simp (e, ne-eqb (getD vs 0 0) 1 f)
+  torn-unmarked vs f = simp (ne-eqb (getD vs 0 0) 1 f) (turned (allZero vs))
+    where
+      turned : (b : Bool) → isTorn {A = A} (cond b empty torn) ≡ not b
+      turned true = refl
+      turned false = refl
 
-  pub torn-judged : (vs : List ℕ) → allZero vs ≡ false → getD vs 0 0 ≡ 1 → isTorn (slotBy p vs) ≡ not (p .ok (p .from vs))
+  pub torn-marked : (vs : List ℕ) → getD vs 0 0 ≡ 1 → isTorn (slotBy p vs) ≡ not (p .ok (p .from vs))
   unfolding slotBy
-  torn-judged vs e f = simp (e, eq-eqb (getD vs 0 0) 1 f) (turned (p .ok (p .from vs)))
+  torn-marked vs f = simp (mark-shows vs f, eq-eqb (getD vs 0 0) 1 f) (turned (p .ok (p .from vs)))
     where
       turned : (b : Bool) → isTorn (cond b (used (p .from vs)) torn) ≡ not b
       turned true = refl

@@ -1,5 +1,5 @@
 -- Slots side by side in bytes, for any party that stands in them: how a slot is read and written, and what damage is.
-use Prim.Native.Nat.{ℕ, zero, suc, _*_, _^_, _<_}
+use Prim.Native.Nat.{ℕ, zero, suc, _*_}
 use mathlib.Core.Path.{_≡_}
 use mathlib.Core.Bool.{Bool, true, false, cond, _&&_, _||_}
 use mathlib.Core.List.{List, [], _∷_, _++_, map}
@@ -27,11 +27,6 @@ pub data Slot (A : Type 0) : Type 0 where
 abbrev pub allZero : List ℕ → Bool
 allZero [] = true
 allZero (v ∷ vs) = eqb v 0 && allZero vs
-
--- number k of v and those after it are below 2 ^ their widths
-abbrev pub Fit : List ℕ → ℕ → List ℕ → Type 0
-Fit [] k v = Unit
-Fit (w ∷ ws) k v = (getD v k 0 < 2 ^ w) × Fit ws (suc k) v
 
 module _ {A : Type 0} where
   -- ---- one slot

@@ -1,5 +1,5 @@
 -- The store (docs/STORE.md) and the book that stands in it: two lists of slots, each not in use or with its entry.
-use Prim.Native.Nat.{ℕ, suc, _+_, _-_, _*_}
+use Prim.Native.Nat.{ℕ, _+_, _-_, _*_}
 use mathlib.Core.Path.{_≡_}
 use mathlib.Core.Bool.{Bool, true, false, cond, not, _&&_, _||_}
 use mathlib.Core.List.{List, [], _∷_, _++_}
@@ -7,31 +7,25 @@ use mathlib.Core.Option.{Option, none, some}
 use lib.ListN.{length, getD, take, drop, replicate}
 use lib.Dec.{eqb}
 use Rattle.layout.specs.Layout.{fields}
-use Rattle.road.specs.declared.Traffic.{Traffic}
 use Rattle.road.specs.declared.Source.{Source}
 use Rattle.road.specs.declared.Verdict.{Verdict}
 use Rattle.road.specs.declared.Verdict.the-variants.{Allowed, Refused}
-use Rattle.road.specs.Judge.{sourceFields, receiverFields, sourceVerdict, receiverVerdict}
+use Rattle.road.specs.Fields.{sourceTable, receiverTable, sourceOf, receiverOf, valuesBy, slotBitsBy}
+use Rattle.road.specs.Judge.{sourceVerdict, receiverVerdict}
 use Rattle.store.specs.declared.Account.{Account}
 use Rattle.store.specs.declared.Held.{Held}
 use Rattle.store.specs.declared.Lane.{Lane}
 use Rattle.store.specs.declared.Seat.{Seat}
 use Rattle.store.specs.Account.{soundB}
-use Rattle.store.specs.Slots.{Party, partyLayout, found, entries, anyTorn, bytes, Each}
+use Rattle.store.specs.Slots.{Party, partyLayout, slotSize, found, entries, anyTorn, bytes, Each}
 
--- ---- how many slots there are, and their sizes in bytes: each number is said here and, for the code, in src/lib.rt
+-- ---- how many slots there are: each number is said here and, for the code, in src/lib.rt
 
 abbrev pub sourceCount : ℕ
 sourceCount = 512
 
 abbrev pub receiverCount : ℕ
 receiverCount = 64
-
-abbrev pub sourceSize : ℕ
-sourceSize = 36
-
-abbrev pub receiverSize : ℕ
-receiverSize = 33
 
 -- the last slots, from slot 0 on
 abbrev pub lastSource : ℕ
@@ -48,73 +42,59 @@ sourceSlots = sourceCount
 unfoldable pub receiverSlots : ℕ
 receiverSlots = receiverCount
 
+-- ---- the two parties: place 0 of a slot's numbers is the mark, and the rows of road's tables follow it
+
+abbrev pub allowedB : Verdict → Bool
+allowedB Allowed = true
+allowedB (Refused why) = false
+
+-- a used source breaks none of 5, 6 and 7
+abbrev pub sourceParty : Party Source
+sourceParty =
+    record {
+      widths = slotBitsBy sourceTable;
+      count = sourceSlots;
+      from = λ v. sourceOf (drop 1 v);
+      to = valuesBy sourceTable;
+      ok = λ s. allowedB (sourceVerdict s);
+    }
+
+-- the account whose sums stand from place k on
+abbrev pub accountAt : ℕ → List ℕ → Account
+accountAt k v = record { day = getD v k 0; evening = getD v (k + 1) 0; night = getD v (k + 2) 0 }
+
+-- the sums follow the rows
+abbrev pub heldFrom : List ℕ → Held
+heldFrom v = record { who = receiverOf (drop 1 v); sums = accountAt (1 + length receiverTable) v }
+
+abbrev pub heldFields : Held → List ℕ
+heldFields h = valuesBy receiverTable (h .who) ++ (h .sums .day ∷ h .sums .evening ∷ h .sums .night ∷ [])
+
+-- nor does a used receiver, and none of its sums is above 512·10^15
+abbrev pub heldParty : Party Held
+heldParty =
+    record {
+      widths = slotBitsBy receiverTable ++ (64 ∷ 64 ∷ 64 ∷ []);
+      count = receiverSlots;
+      from = heldFrom;
+      to = heldFields;
+      ok = λ h. allowedB (receiverVerdict (h .who)) && soundB (h .sums);
+    }
+
+-- ---- sizes in bytes
+
+abbrev pub sourceSize : ℕ
+sourceSize = slotSize sourceParty
+
+abbrev pub receiverSize : ℕ
+receiverSize = slotSize heldParty
+
 -- where the receivers begin
 unfoldable pub split : ℕ
 split = sourceCount * sourceSize
 
 unfoldable pub storeLength : ℕ
 storeLength = sourceCount * sourceSize + receiverCount * receiverSize
-
--- ---- the two parties: place 0 of a slot's numbers is the mark
-
-abbrev pub at : List ℕ → ℕ → ℕ
-at v i = getD v i 0
-
-abbrev pub allowedB : Verdict → Bool
-allowedB Allowed = true
-allowedB (Refused why) = false
-
-abbrev pub trafficFrom : List ℕ → ℕ → Traffic
-trafficFrom v i = record { m = at v i; p = at v (suc i) }
-
-abbrev pub sourceFrom : List ℕ → Source
-sourceFrom v =
-    record {
-      x = at v 1;
-      y = at v 2;
-      length = at v 3;
-      lanes = at v 4;
-      car = at v 5;
-      truck = at v 6;
-      surface = at v 7;
-      gradient = at v 8;
-      reflection = at v 9;
-      walls = at v 10;
-      height = at v 11;
-      spacing = at v 12;
-      traffic = trafficFrom v 13 ∷ trafficFrom v 15 ∷ trafficFrom v 17 ∷ [];
-    }
-
--- a used source breaks none of 5, 6 and 7
-abbrev pub sourceParty : Party Source
-sourceParty =
-    record {
-      widths = 24 ∷ 24 ∷ 24 ∷ 8 ∷ 8 ∷ 8 ∷ 8 ∷ 8 ∷ 8 ∷ 8 ∷ 16 ∷ 16 ∷ 24 ∷ 16 ∷ 24 ∷ 16 ∷ 24 ∷ 16 ∷ [];
-      count = sourceSlots;
-      from = sourceFrom;
-      to = sourceFields;
-      ok = λ s. allowedB (sourceVerdict s);
-    }
-
-abbrev pub accountFrom : List ℕ → Account
-accountFrom v = record { day = at v 4; evening = at v 5; night = at v 6 }
-
-abbrev pub heldFrom : List ℕ → Held
-heldFrom v = record { who = record { x = at v 1; y = at v 2; height = at v 3 }; sums = accountFrom v }
-
-abbrev pub heldFields : Held → List ℕ
-heldFields h = receiverFields (h .who) ++ (h .sums .day ∷ h .sums .evening ∷ h .sums .night ∷ [])
-
--- nor does a used receiver, and none of its sums is above 512·10^15
-abbrev pub heldParty : Party Held
-heldParty =
-    record {
-      widths = 24 ∷ 24 ∷ 16 ∷ 64 ∷ 64 ∷ 64 ∷ [];
-      count = receiverSlots;
-      from = heldFrom;
-      to = heldFields;
-      ok = λ h. allowedB (receiverVerdict (h .who)) && soundB (h .sums);
-    }
 
 -- ---- the book
 
@@ -169,13 +149,13 @@ abbrev pub receiverAt : ℕ → List ℕ → List ℕ
 receiverAt j s = take receiverSize (drop (split + j * receiverSize) s)
 
 abbrev pub laneBy : List ℕ → Lane
-laneBy v = record { used = eqb (at v 0) 1; source = sourceFrom v }
+laneBy v = record { used = eqb (getD v 0 0) 1; source = sourceParty .from v }
 
 unfoldable pub laneOf : List ℕ → Lane
 laneOf s = laneBy (fields (partyLayout sourceParty) s)
 
 abbrev pub seatBy : List ℕ → Seat
-seatBy v = record { used = eqb (at v 0) 1; held = heldFrom v }
+seatBy v = record { used = eqb (getD v 0 0) 1; held = heldFrom v }
 
 unfoldable pub seatOf : List ℕ → Seat
 seatOf s = seatBy (fields (partyLayout heldParty) s)

@@ -7,8 +7,10 @@ use crate::RECEIVERS;
 use crate::SPLIT;
 use crate::Seat;
 use crate::slot;
-use road::Receiver;
 use road::Verdict;
+use road::fields;
+use road::fields::BYTES;
+use road::fields::RECEIVER;
 ghost use mathlib.Core.Path.{_≡_};
 ghost use mathlib.Core.Bool.{true};
 ghost use mathlib.Core.List.{_∷_};
@@ -17,37 +19,54 @@ ghost use Prim.Native.Nat.{_+_, _*_, _<_};
 ghost use lib.ListN.{length, drop};
 ghost use Rattle.layout.specs.Layout.{fields};
 ghost use Rattle.layout.specs.Over.{over};
-ghost use Rattle.store.specs.Slots.{Fit, partyLayout, slotBy, slotBytes, found, isTorn, anyTorn};
+ghost use Rattle.road.specs.Fields.{Fit};
+ghost use Rattle.store.specs.Slots.{partyLayout, slotBy, slotBytes, found, isTorn, anyTorn};
 ghost use Rattle.store.specs.Store.{receiverCount, receiverSize, storeLength, split, heldParty, heldFrom, heldFields, receiverAt, seatOf, HeldStands};
 
-// The mark, then fields 2 to 4 of document 01, then the three sums.
-const WIDTHS: [u8; 7] = [8, 24, 24, 16, 64, 64, 64];
+// A slot's numbers: its mark, a receiver's values, and the three sums at these places.
+const DAY: usize = 1 + RECEIVER.len();
+
+const EVENING: usize = DAY + 1;
+
+const NIGHT: usize = DAY + 2;
+
+const NUMBERS: usize = DAY + 3;
+
+// Their widths in bits: a byte for the mark, the bytes of each field, and eight bytes for a sum.
+const WIDTHS: [u8; NUMBERS] = [
+    8,
+    8 * RECEIVER[0][BYTES] as u8,
+    8 * RECEIVER[1][BYTES] as u8,
+    8 * RECEIVER[2][BYTES] as u8,
+    64,
+    64,
+    64,
+];
 
 // The numbers of slot j.
-fn numbers(store: &[u8], j: usize) -> [u64; 7]
+fn numbers(store: &[u8], j: usize) -> [u64; NUMBERS]
     requires { ⌜ (j < receiverCount) × (length (now store) ≡ storeLength) ⌝ }
     ensures { λ r. ⌜ r ≡ fields (partyLayout heldParty) (receiverAt j (now (store .entry))) ⌝ }
 {
     let ws = WIDTHS;
-    let mut v = [0u64; 7];
+    let mut v = [0u64; NUMBERS];
     slot::get(store, SPLIT + j * RECEIVER_SIZE, &ws, &mut v);
     v
 }
 
 // The receiver and its account that numbers describe.
-fn held_from(v: &[u64; 7]) -> Held
+fn held_from(v: &[u64; NUMBERS]) -> Held
     requires { ⌜ Fit (partyLayout heldParty) 0 (now v) ⌝ }
     ensures { λ r. ⌜ r ≡ heldFrom (now (v .entry)) ⌝ }
 {
-    let who = Receiver {
-        x: v[1] as u32,
-        y: v[2] as u32,
-        height: v[3] as u16,
-    };
+    let who = fields::receiver_of(v, 1);
+    let day = v[DAY];
+    let evening = v[EVENING];
+    let night = v[NIGHT];
     let sums = Account {
-        day: v[4],
-        evening: v[5],
-        night: v[6],
+        day,
+        evening,
+        night,
     };
     Held { who, sums }
 }
@@ -64,15 +83,12 @@ pub fn seat(store: &[u8], j: usize) -> Seat
 }
 
 // Whether numbers are neither all zero nor those of a receiver in use.
-fn torn(v: &[u64; 7]) -> bool
+fn torn(v: &[u64; NUMBERS]) -> bool
     requires { ⌜ Fit (partyLayout heldParty) 0 (now v) ⌝ }
     ensures { λ r. ⌜ r ≡ isTorn (slotBy heldParty (now (v .entry))) ⌝ }
 {
-    if slot::blank(v) {
-        return false;
-    }
     if v[0] != 1 {
-        return true;
+        return !slot::blank(v);
     }
     let h = held_from(v);
     let who = h.who;
@@ -100,20 +116,17 @@ pub(crate) fn any_torn(store: &[u8]) -> bool
 }
 
 // The numbers of a receiver in use.
-fn numbers_of(h: Held) -> [u64; 7]
+fn numbers_of(h: Held) -> [u64; NUMBERS]
     ensures { λ r. ⌜ r ≡ 1 ∷ heldFields h ⌝ }
 {
-    let who = h.who;
     let sums = h.sums;
-    [
-        1,
-        who.x as u64,
-        who.y as u64,
-        who.height as u64,
-        sums.day,
-        sums.evening,
-        sums.night,
-    ]
+    let mut v = [0u64; NUMBERS];
+    v[DAY] = sums.day;
+    v[EVENING] = sums.evening;
+    v[NIGHT] = sums.night;
+    let values = fields::receiver_values(h.who);
+    slot::mark(&values, &mut v);
+    v
 }
 
 // Writes a receiver and its account into slot j.
@@ -132,6 +145,6 @@ pub fn drop_held(store: &mut [u8], j: usize)
     ensures { λ _. ⌜ now (store .exit) ≡ over (split + j * receiverSize) (slotBytes heldParty none) (now (store .entry)) ⌝ }
 {
     let ws = WIDTHS;
-    let v = [0u64; 7];
+    let v = [0u64; NUMBERS];
     slot::put(store, SPLIT + j * RECEIVER_SIZE, &ws, &v);
 }

@@ -1,8 +1,9 @@
-// A slot's numbers in the lent bytes, whatever party stands in it: read, written, and looked at for zeros.
+// A slot's numbers in the lent bytes, whatever party stands in it: read, written, marked as used, and looked at for zeros.
 // The widths are those of the party's layout.
 ghost use mathlib.Core.Path.{_≡_};
 ghost use mathlib.Core.Bool.{true};
-ghost use Prim.Native.Nat.{_+_, _≤_};
+ghost use mathlib.Core.List.{_∷_};
+ghost use Prim.Native.Nat.{_+_, _≤_, _<_};
 ghost use lib.ListN.{length, drop};
 ghost use Rattle.layout.specs.Layout.{size, sized, fields, packed, Within};
 ghost use Rattle.layout.specs.Over.{over};
@@ -22,6 +23,19 @@ pub(crate) fn put(store: &mut [u8], at: usize, ws: &[u8], vs: &[u64])
     ensures { λ _. ⌜ now (store .exit) ≡ over at (packed (now (ws .entry)) (now (vs .entry))) (now (store .entry)) ⌝ }
 {
     layout::put_fields(&mut store[at..], ws, vs);
+}
+
+// Writes the mark of a slot in use and the values behind it at the front of numbers.
+pub(crate) fn mark(values: &[u64], vs: &mut [u64])
+    requires { ⌜ length (now values) < length (now vs) ⌝ }
+    ensures { λ _. ⌜ now (vs .exit) ≡ over 0 (1 ∷ now (values .entry)) (now (vs .entry)) ⌝ }
+{
+    vs[0] = 1;
+    let mut i = 0;
+    while i < values.len() {
+        vs[i + 1] = values[i];
+        i += 1;
+    }
 }
 
 // Whether all numbers are 0.

@@ -5,8 +5,10 @@ use crate::SOURCE_SIZE;
 use crate::SOURCES;
 use crate::slot;
 use road::Source;
-use road::Traffic;
 use road::Verdict;
+use road::fields;
+use road::fields::BYTES;
+use road::fields::SOURCE;
 ghost use mathlib.Core.Path.{_≡_};
 ghost use mathlib.Core.List.{_∷_};
 ghost use mathlib.Core.Option.{none, some};
@@ -16,40 +18,44 @@ ghost use Rattle.level.specs.Table.{table};
 ghost use Rattle.layout.specs.Layout.{fields};
 ghost use Rattle.layout.specs.Over.{over};
 ghost use Rattle.road.specs.declared.Verdict.the-variants.{Allowed};
-ghost use Rattle.road.specs.Judge.{sourceFields, sourceVerdict};
-ghost use Rattle.store.specs.Slots.{Fit, partyLayout, slotBy, slotBytes, found, isTorn, anyTorn};
-ghost use Rattle.store.specs.Store.{sourceCount, sourceSize, storeLength, sourceParty, sourceFrom, sourceAt, laneOf};
+ghost use Rattle.road.specs.Fields.{sourceTable, valuesBy, Fit};
+ghost use Rattle.road.specs.Judge.{sourceVerdict};
+ghost use Rattle.store.specs.Slots.{partyLayout, slotBy, slotBytes, found, isTorn, anyTorn};
+ghost use Rattle.store.specs.Store.{sourceCount, sourceSize, storeLength, sourceParty, sourceAt, laneOf};
 
-// The mark, then fields 2 to 19 of document 01.
-const WIDTHS: [u8; 19] = [
+// A slot's numbers: its mark and a source's values.
+const NUMBERS: usize = 1 + SOURCE.len();
+
+// Their widths in bits: a byte for the mark, and the bytes of each field.
+const WIDTHS: [u8; NUMBERS] = [
     8,
-    24,
-    24,
-    24,
-    8,
-    8,
-    8,
-    8,
-    8,
-    8,
-    8,
-    16,
-    16,
-    24,
-    16,
-    24,
-    16,
-    24,
-    16,
+    8 * SOURCE[0][BYTES] as u8,
+    8 * SOURCE[1][BYTES] as u8,
+    8 * SOURCE[2][BYTES] as u8,
+    8 * SOURCE[3][BYTES] as u8,
+    8 * SOURCE[4][BYTES] as u8,
+    8 * SOURCE[5][BYTES] as u8,
+    8 * SOURCE[6][BYTES] as u8,
+    8 * SOURCE[7][BYTES] as u8,
+    8 * SOURCE[8][BYTES] as u8,
+    8 * SOURCE[9][BYTES] as u8,
+    8 * SOURCE[10][BYTES] as u8,
+    8 * SOURCE[11][BYTES] as u8,
+    8 * SOURCE[12][BYTES] as u8,
+    8 * SOURCE[13][BYTES] as u8,
+    8 * SOURCE[14][BYTES] as u8,
+    8 * SOURCE[15][BYTES] as u8,
+    8 * SOURCE[16][BYTES] as u8,
+    8 * SOURCE[17][BYTES] as u8,
 ];
 
 // The numbers of slot i.
-fn numbers(store: &[u8], i: usize) -> [u64; 19]
+fn numbers(store: &[u8], i: usize) -> [u64; NUMBERS]
     requires { ⌜ (i < sourceCount) × (length (now store) ≡ storeLength) ⌝ }
     ensures { λ r. ⌜ r ≡ fields (partyLayout sourceParty) (sourceAt i (now (store .entry))) ⌝ }
 {
     let ws = WIDTHS;
-    let mut v = [0u64; 19];
+    let mut v = [0u64; NUMBERS];
     slot::get(store, i * SOURCE_SIZE, &ws, &mut v);
     v
 }
@@ -64,64 +70,26 @@ pub fn marked(store: &[u8], i: usize) -> bool
     mark == 1
 }
 
-// The source that numbers describe.
-fn source_from(v: &[u64; 19]) -> Source
-    requires { ⌜ Fit (partyLayout sourceParty) 0 (now v) ⌝ }
-    ensures { λ r. ⌜ r ≡ sourceFrom (now (v .entry)) ⌝ }
-{
-    let day = Traffic {
-        m: v[13] as u32,
-        p: v[14] as u16,
-    };
-    let evening = Traffic {
-        m: v[15] as u32,
-        p: v[16] as u16,
-    };
-    let night = Traffic {
-        m: v[17] as u32,
-        p: v[18] as u16,
-    };
-    let traffic = [day, evening, night];
-    Source {
-        x: v[1] as u32,
-        y: v[2] as u32,
-        length: v[3] as u32,
-        lanes: v[4] as u8,
-        car: v[5] as u8,
-        truck: v[6] as u8,
-        surface: v[7] as u8,
-        gradient: v[8] as u8,
-        reflection: v[9] as u8,
-        walls: v[10] as u8,
-        height: v[11] as u16,
-        spacing: v[12] as u16,
-        traffic,
-    }
-}
-
 // Slot i as it stands.
 pub fn lane(store: &[u8], i: usize) -> Lane
     requires { ⌜ (i < sourceCount) × (length (now store) ≡ storeLength) ⌝ }
     ensures { λ r. ⌜ r ≡ laneOf (sourceAt i (now (store .entry))) ⌝ }
 {
     let v = numbers(store, i);
-    let source = source_from(&v);
+    let source = fields::source_of(&v, 1);
     let used = v[0] == 1;
     Lane { used, source }
 }
 
 // Whether numbers are neither all zero nor those of a source in use.
-fn torn(steps: &[u32; 1000], v: &[u64; 19]) -> bool
+fn torn(steps: &[u32; 1000], v: &[u64; NUMBERS]) -> bool
     requires { ⌜ (now steps ≡ table) × Fit (partyLayout sourceParty) 0 (now v) ⌝ }
     ensures { λ r. ⌜ r ≡ isTorn (slotBy sourceParty (now (v .entry))) ⌝ }
 {
-    if slot::blank(v) {
-        return false;
-    }
     if v[0] != 1 {
-        return true;
+        return !slot::blank(v);
     }
-    match road::judge::judge_source(steps, source_from(v)) {
+    match road::judge::judge_source(steps, fields::source_of(v, 1)) {
         Verdict::Allowed => false,
         Verdict::Refused(_) => true,
     }
@@ -143,17 +111,13 @@ pub(crate) fn any_torn(steps: &[u32; 1000], store: &[u8]) -> bool
     false
 }
 
-// The numbers of a source in use: the mark, then its fields.
-fn numbers_of(s: Source) -> [u64; 19]
-    ensures { λ r. ⌜ r ≡ 1 ∷ sourceFields s ⌝ }
+// The numbers of a source in use.
+fn numbers_of(s: Source) -> [u64; NUMBERS]
+    ensures { λ r. ⌜ r ≡ 1 ∷ valuesBy sourceTable s ⌝ }
 {
-    let fields = road::fields::source_values(s);
-    let mut v = [1u64; 19];
-    let mut i = 0;
-    while i < 18 {
-        v[i + 1] = fields[i];
-        i += 1;
-    }
+    let values = fields::source_values(s);
+    let mut v = [0u64; NUMBERS];
+    slot::mark(&values, &mut v);
     v
 }
 
@@ -173,6 +137,6 @@ pub fn drop_source(store: &mut [u8], i: usize)
     ensures { λ _. ⌜ now (store .exit) ≡ over (i * sourceSize) (slotBytes sourceParty none) (now (store .entry)) ⌝ }
 {
     let ws = WIDTHS;
-    let v = [0u64; 19];
+    let v = [0u64; NUMBERS];
     slot::put(store, i * SOURCE_SIZE, &ws, &v);
 }

@@ -1,6 +1,7 @@
 -- `lane` gives the slot's mark and fields as they stand.
 -- Assumes nothing.
 use mathlib.Core.Path.{ap, _∙_}
+use native.Mathlib.Omega.{arith}
 use denote.Ref.{now}
 use lib.Dec.{eqb}
 use lib.ListN.{getD}
@@ -14,17 +15,20 @@ use Rattle.store.proofs.sources.lane.Tie as tie
 numbers-requires : tie.Need-numbers-requires
 numbers-requires c κs = search needs
 
-source-from-requires : tie.Need-source-from-requires
-source-from-requires c κs =
+slice-aggregate-source-of : tie.Need-slice-aggregate-source-of
+slice-aggregate-source-of c = search needs
+
+source-of-requires : tie.Need-source-of-requires
+source-of-requires c κs =
     let z = c .before .before .before in
-    fields-fit (partyLayout sourceParty) (sourceAt (z .args .i) (now (z .args .store))) _ (c .before .numbers .ensures)
+    (omega arith, fields-fit (partyLayout sourceParty) (sourceAt (z .args .i) (now (z .args .store))) _ (c .before .numbers .ensures) .1)
 
 array-read-used : tie.Need-array-read-used
 array-read-used c = search needs
 
 returns : tie.Need-returns
 unfolding laneOf
-returns c = (λ k. record { used = eqb (getD (c .before .before .numbers .result) 0 0) 1; source = c .source-from .ensures k }) ∙ ap laneBy (c .before .before .numbers .ensures)
+returns c = (λ k. record { used = eqb (getD (c .before .before .numbers .result) 0 0) 1; source = c .source-of .ensures k }) ∙ ap laneBy (c .before .before .numbers .ensures)
 
 pub lane-spec : {M : Type 1} → statement M
-lane-spec = tie.close (tie.spec numbers-requires source-from-requires array-read-used returns)
+lane-spec = tie.close (tie.spec numbers-requires slice-aggregate-source-of source-of-requires array-read-used returns)
