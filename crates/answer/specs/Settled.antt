@@ -1,4 +1,4 @@
--- A contract settles its outcome: two outcomes that meet it are the same to a caller (document 01, 'What each contract has to settle').
+-- A contract settles its outcome: two outcomes that meet it are the same to a caller (DECISIONS, 'What a contract settles').
 -- `Settles` takes a function's own contract as Rattle reads it, so that no line about it can speak of another one.
 use mathlib.Core.Path.{_≡_}
 

@@ -1,4 +1,4 @@
--- Document 01's table of numbers: the number and the place of each refusal. Done is 0 at place 0.
+-- METHOD 9's table of numbers: the number and the place of each refusal. Done is 0 at place 0.
 -- Every promise that speaks of a number goes through these definitions.
 use Prim.Native.Nat.{ℕ, _≤_}
 use mathlib.Core.Option.{Option, none, some}

@@ -1,4 +1,4 @@
-// Why a call is refused: one case for each row of document 01's table of numbers.
+// Why a call is refused: one case for each row of METHOD 9's table of numbers.
 // The number and the place that a caller is told are those of specs/Table.antt.
 ghost use mathlib.Core.Path.{_≡_};
 ghost use Rattle.answer.specs.Table.{numberOf, placeOf};

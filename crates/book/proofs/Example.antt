@@ -32,7 +32,7 @@ use Rattle.undamaged.proofs.Answered.{by-taken}
 use Rattle.book.proofs.Slots.{row-at}
 use Rattle.book.proofs.Gates.{slot-passes}
 use Rattle.book.proofs.Laws.{StoreLaws, store-laws}
-use Rattle.book.proofs.History.{laneAfter, seatAfter, on-store, accepts-by-rule, holds-what-stands}
+use Rattle.book.proofs.History.{sourceAfter, seatAfter, on-store, accepts-by-rule, holds-what-stands}
 use Rattle.book.proofs.Rebuild.{keeps, rebuilt}
 
 -- ---- the two roads, and what the first brings to the point
@@ -79,30 +79,30 @@ drops c h k q e = rw (e, q)
 
 module _ (laws : StoreLaws) where
   -- a call that meets the rule is kept
-  by-rule : (h k : List Call) → Real h → kept h ≡ k → (c : Call) → Rule (laneAfter k) (seatAfter k) c → kept (c ∷ h) ≡ c ∷ k
+  by-rule : (h k : List Call) → Real h → kept h ≡ k → (c : Call) → Rule (sourceAfter k) (seatAfter k) c → kept (c ∷ h) ≡ c ∷ k
   unfolding standingSource standingReceiver
   by-rule h k real q c n =
-      keeps c h k q (accepts-by-rule laws h real c .1 (subst (λ l. Rule (laneAfter l) (seatAfter l) c) (sym q) n))
+      keeps c h k q (accepts-by-rule laws h real c .1 (subst (λ l. Rule (sourceAfter l) (seatAfter l) c) (sym q) n))
 
   -- a used slot is taken
   refuses : (h k : List Call) → Real h → kept h ≡ k → (i : ℕ) (s t : Source) → i < sourceSlots → sourceVerdict s ≡ Allowed
-      → laneAfter k i ≡ some t → answerTo h (PlaceSource i s) ≡ Refused Taken
+      → sourceAfter k i ≡ some t → answerTo h (PlaceSource i s) ≡ Refused Taken
   unfolding standingSource placeSource
   refuses h k real q i s t low ok e =
       let H = holds-what-stands laws h real in
       let there : getD (bookAfter h .sources) i none ≡ some t =
-      ap (λ l. getD l i none) (H .sources) ∙ row-at sourceSlots (standingSource h) none i low ∙ ap (λ l. laneAfter l i) q ∙ e in
+      ap (λ l. getD l i none) (H .sources) ∙ row-at sourceSlots (standingSource h) none i low ∙ ap (λ l. sourceAfter l i) q ∙ e in
       let may : slotVerdict lastSource i (sourceVerdict s) ≡ Allowed = slot-passes lastSource i (sourceVerdict s) (omega (arith, many-sources), ok) in
       ap (λ (o : Answer × List ℕ). o .0)
       (on-store (placeSource i s) (storeAfter h) (bookAfter h) (H .undamaged) refl ∙ ap (told (storeAfter h)) (by-taken _ _ _ t may there))
 
   -- what an ask is told
   tells : (h k : List Call) → Real h → kept h ≡ k → seatAfter k 5 ≡ some home
-      → answerTo h (Ask 5) ≡ levelsOf (present (row sourceSlots (laneAfter k))) home
+      → answerTo h (Ask 5) ≡ levelsOf (present (row sourceSlots (sourceAfter k))) home
   unfolding standingReceiver standingSources standingSource receiverSlots
   tells h k real q e =
       holds-what-stands laws h real .levels 5 home (omega arith) (ap (λ l. seatAfter l 5) q ∙ e)
-      ∙ ap (λ l. levelsOf (present (row sourceSlots (laneAfter l))) home) q
+      ∙ ap (λ l. levelsOf (present (row sourceSlots (sourceAfter l))) home) q
 
   placed-kept : kept placed ≡ placed
   unfolding kept lastAt row sourceSlots receiverSlots
@@ -144,7 +144,7 @@ module _ (laws : StoreLaws) where
   elsewhere-rebuilds : Rebuilds placed elsewhere
   unfolding standingSources standingSource standingReceivers standingReceiver lastAt row sourceSlots receiverSlots
   elsewhere-rebuilds =
-      let s : standingSources placed ≡ near ∷ [] = ap (λ l. present (row sourceSlots (laneAfter l))) placed-kept in
+      let s : standingSources placed ≡ near ∷ [] = ap (λ l. present (row sourceSlots (sourceAfter l))) placed-kept in
       let r : standingReceivers placed ≡ home ∷ [] = ap (λ l. present (row receiverSlots (seatAfter l))) placed-kept in
       record {
         same-sources = subst (List·Permᴰ (near ∷ [])) (sym s) (Permᴰ·refl (near ∷ []));

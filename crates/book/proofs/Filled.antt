@@ -16,7 +16,7 @@ use Rattle.road.specs.Pairs.{isHeard, brought}
 use Rattle.road.proofs.Pairs.{pair-bounded}
 use Rattle.road.specs.Judge.{sourceVerdict, receiverVerdict, slotVerdict}
 use Rattle.store.specs.declared.Held.{Held}
-use Rattle.store.specs.Account.{soundB, covers}
+use Rattle.store.specs.Account.{sound, covers}
 use Rattle.store.specs.Store.{lastSource, lastReceiver, Book, book, sourceSlots, receiverSlots, SourceStands, HeldStands, SoundBook}
 use Rattle.store.proofs.Laws.{many-sources, many-receivers}
 use Rattle.undamaged.specs.declared.Answer.{Answer}
@@ -48,7 +48,7 @@ ReceiverStands r = receiverVerdict r ≡ Allowed
 
 -- these entries may be in a book together
 pub record Standing (S : List (Option Source)) (R : List (Option Receiver)) : Type 0 where
-  pub lanes : length S ≡ sourceSlots
+  pub source-slots : length S ≡ sourceSlots
   pub seats : length R ≡ receiverSlots
   pub sources : All SourceStands (present S)
   pub receivers : All ReceiverStands (present R)
@@ -61,7 +61,7 @@ fill-at S R j = List·getD-map (omap (weigh pairOf (present S))) R j none
 -- a store can hold it
 pub standing-sound : (S : List (Option Source)) (R : List (Option Receiver)) → Standing S R → SoundBook (fill S R)
 standing-sound S R p = record {
-  lanes = p .lanes ∙ many-sources;
+  source-slots = p .source-slots ∙ many-sources;
   seats = length-map R (omap (weigh pairOf (present S))) ∙ p .seats ∙ many-receivers;
   sources-stand = λ i s e. all-at SourceStands S i s (p .sources) e;
   receivers-stand = λ j x e. go j (getD R j none) refl x (sym (fill-at S R j) ∙ e);
@@ -73,15 +73,15 @@ standing-sound S R p = record {
         let same : weigh pairOf (present S) r ≡ x = cc in
         let ok : HeldStands (weigh pairOf (present S) r) = (
           all-at ReceiverStands R j r (p .receivers) q,
-          weigh-sound pairOf pair-bounded S r (p .lanes),
+          weigh-sound pairOf pair-bounded S r (p .source-slots),
         ) in
         subst HeldStands same ok
 
--- ---- what each call makes of it, where lane and seat say who is in each slot
+-- ---- what each call makes of it, where source-slot and seat say who is in each slot
 
-module _ (lane : ℕ → Option Source) (seat : ℕ → Option Receiver) where
+module _ (source-slot : ℕ → Option Source) (seat : ℕ → Option Receiver) where
   abbrev S : List (Option Source)
-  S = row sourceSlots lane
+  S = row sourceSlots source-slot
 
   abbrev R : List (Option Receiver)
   R = row receiverSlots seat
@@ -96,12 +96,12 @@ module _ (lane : ℕ → Option Source) (seat : ℕ → Option Receiver) where
       × (RealCall c → Standing (moved sourceSlots (sourceMove c) S) (moved receiverSlots (receiverMove c) R))
 
   abbrev pub Leads : Call → Step → Type 0
-  Leads c k = Fine (Rule lane seat c) (λ a. (accepted a ≡ true) × Next c (fill S R)) (Next c) k
+  Leads c k = Fine (Rule source-slot seat c) (λ a. (accepted a ≡ true) × Next c (fill S R)) (Next c) k
 
   -- ---- who is in a slot
 
-  lane-is : (i : ℕ) → i ≤ lastSource → getD S i none ≡ lane i
-  lane-is i h = row-at sourceSlots lane none i (omega (arith, many-sources))
+  source-slot-is : (i : ℕ) → i ≤ lastSource → getD S i none ≡ source-slot i
+  source-slot-is i h = row-at sourceSlots source-slot none i (omega (arith, many-sources))
 
   seat-is : (j : ℕ) → j ≤ lastReceiver → getD (fill S R .receivers) j none ≡ omap afresh (seat j)
   seat-is j h = fill-at S R j ∙ ap (omap afresh) (row-at receiverSlots seat none j (omega (arith, many-receivers)))
@@ -119,27 +119,27 @@ module _ (lane : ℕ → Option Source) (seat : ℕ → Option Receiver) where
       where
         fits : (r : Receiver) → coming pairOf s .fits (afresh r) ≡ true
         fits r =
-            ap (λ (x : Held). soundB (x .sums)) (entered r)
-            ∙ weigh-sound pairOf pair-bounded (set S i (some s)) r (length-set S i (some s) ∙ row-length sourceSlots lane)
+            ap (λ (x : Held). sound (x .sums)) (entered r)
+            ∙ weigh-sound pairOf pair-bounded (set S i (some s)) r (length-set S i (some s) ∙ row-length sourceSlots source-slot)
 
   pub place-source : (i : ℕ) (s : Source) → Standing S R → Leads (PlaceSource i s) (placeSource i s (fill S R))
   unfolding placeSource
   place-source i s p =
       let who : Held → Pair = λ x. pairOf s (x .who) in
       past-fields _ _ _ lastSource i (sourceVerdict s) _ (source-by s) (λ n. (omega (arith, n .0, many-sources), n .1)) λ ok.
-      past-free _ _ _ (getD S i none) _ (λ n. lane-is i (ok .0) ∙ n .2) λ free.
+      past-free _ _ _ (getD S i none) _ (λ n. source-slot-is i (ok .0) ∙ n .2) λ free.
       past-bars _ _ _ (firstBar who 0 (fill S R .receivers)) _ (bars-apart _ 0 _)
       (λ n. bars-omap afresh who 0 R ∙ bars-none (λ r. pairOf s r) 0 R (n .3)) λ bars.
-      let low : i < length S = omega (arith, ok .0, p .lanes, many-sources) in
+      let low : i < length S = omega (arith, ok .0, p .source-slots, many-sources) in
       let hears = bars-pass (λ r. pairOf s r) 0 R (sym (bars-omap afresh who 0 R) ∙ bars) in
       let all = all-both (λ r. Hears s r) (λ r h a. all-set (λ s. Hears s r) S i (some s) (h, tt) a) (present R) hears (p .heard) in
       past-late _ _ _ _ _ (room i s low free) (
-        (omega (arith, ok .0, many-sources), ok .1, sym (lane-is i (ok .0)) ∙ free, hears),
+        (omega (arith, ok .0, many-sources), ok .1, sym (source-slot-is i (ok .0)) ∙ free, hears),
         (
           ap (book (set S i (some s))) (omap-twice afresh (follow (coming pairOf s)) _ R (entered i s low free)),
           λ real.
               record {
-                lanes = length-set S i (some s) ∙ p .lanes;
+                source-slots = length-set S i (some s) ∙ p .source-slots;
                 seats = p .seats;
                 sources = all-set SourceStands S i (some s) ((ok .1, real), tt) (p .sources);
                 receivers = p .receivers;
@@ -173,15 +173,15 @@ module _ (lane : ℕ → Option Source) (seat : ℕ → Option Receiver) where
   unfolding withdrawSource
   withdraw-source i p =
       past-fields _ _ _ lastSource i Allowed _ tt (λ n. (omega (arith, n .0, many-sources), refl)) λ ok.
-      past-used _ _ _ (getD S i none) _ (λ n. ap used (lane-is i (ok .0)) ∙ n .1) λ s there.
+      past-used _ _ _ (getD S i none) _ (λ n. ap used (source-slot-is i (ok .0)) ∙ n .1) λ s there.
       past-bars _ _ _ (barOf (going pairOf s) (fill S R .receivers)) _ (bars-apart _ 0 _) (λ n. nobody-bars i s there) λ bars.
       past-late _ _ _ _ _ (returns i s there (p .heard)) (
-        (omega (arith, ok .0, many-sources), ap used (sym (lane-is i (ok .0)) ∙ there)),
+        (omega (arith, ok .0, many-sources), ap used (sym (source-slot-is i (ok .0)) ∙ there)),
         (
           ap (book (set S i none)) (omap-twice afresh (follow (going pairOf s)) _ R (left i s there)),
           λ real.
               record {
-                lanes = length-set S i none ∙ p .lanes;
+                source-slots = length-set S i none ∙ p .source-slots;
                 seats = p .seats;
                 sources = all-set SourceStands S i none tt (p .sources);
                 receivers = p .receivers;
@@ -204,7 +204,7 @@ module _ (lane : ℕ → Option Source) (seat : ℕ → Option Receiver) where
           ap (book S) (sym (omap-set afresh R j (some r))),
           λ real.
               record {
-                lanes = p .lanes;
+                source-slots = p .source-slots;
                 seats = length-set R j (some r) ∙ p .seats;
                 sources = p .sources;
                 receivers = all-set ReceiverStands R j (some r) (ok .1, tt) (p .receivers);
@@ -233,7 +233,7 @@ module _ (lane : ℕ → Option Source) (seat : ℕ → Option Receiver) where
       ap (book S) (sym (omap-set afresh R j none)),
       λ real.
           record {
-            lanes = p .lanes;
+            source-slots = p .source-slots;
             seats = length-set R j none ∙ p .seats;
             sources = p .sources;
             receivers = all-set ReceiverStands R j none tt (p .receivers);

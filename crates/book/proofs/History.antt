@@ -82,14 +82,14 @@ refused-leaves (Ask j) b = step-leaves (askReceiver j) b
 
 -- ---- bytes that hold what accepted calls leave
 
-abbrev pub laneAfter : List Call → ℕ → Option Source
-laneAfter k = lastAt (map sourceMove k)
+abbrev pub sourceAfter : List Call → ℕ → Option Source
+sourceAfter k = lastAt (map sourceMove k)
 
 abbrev pub seatAfter : List Call → ℕ → Option Receiver
 seatAfter k = lastAt (map receiverMove k)
 
 abbrev pub sourcesAfter : List Call → List (Option Source)
-sourcesAfter k = row sourceSlots (laneAfter k)
+sourcesAfter k = row sourceSlots (sourceAfter k)
 
 abbrev pub receiversAfter : List Call → List (Option Receiver)
 receiversAfter k = row receiverSlots (seatAfter k)
@@ -103,9 +103,9 @@ pub record Holds (b : List ℕ) (k : List Call) : Type 0 where
 record Fits (k : List Call) (c : Call) (o : Answer × List ℕ) : Type 0 where
   holds : RealCall c → Holds (o .1) (cond (accepted (o .0)) (c ∷ k) k)
   sound : o .0 ≢ Refused Damaged
-  rule : (accepted (o .0) ≡ true) ↔ Rule (laneAfter k) (seatAfter k) c
+  rule : (accepted (o .0) ≡ true) ↔ Rule (sourceAfter k) (seatAfter k) c
 
-holds-next : (b : List ℕ) (k : List Call) (c : Call) → Next (laneAfter k) (seatAfter k) c (bookOf b) → damaged b ≡ false
+holds-next : (b : List ℕ) (k : List Call) (c : Call) → Next (sourceAfter k) (seatAfter k) c (bookOf b) → damaged b ≡ false
     → RealCall c → Holds b (c ∷ k)
 holds-next b k c n e real =
     let s = slots-moved sourceSlots (sourceMove c) (map sourceMove k) in
@@ -126,7 +126,7 @@ sound-length b = go (eqb (length b) storeLength) _
 
 nobody : Standing (replicate sourceSlots none) (replicate receiverSlots none)
 nobody = record {
-  lanes = length-replicate sourceSlots none;
+  source-slots = length-replicate sourceSlots none;
   seats = length-replicate receiverSlots none;
   sources = all-none SourceStands sourceSlots;
   receivers = all-none ReceiverStands receiverSlots;
@@ -155,7 +155,7 @@ module _ (laws : StoreLaws) where
     standing = subst₂ Standing s r nobody;
   }
 
-  fits-told : (b : List ℕ) (k : List Call) (c : Call) → Holds b k → (x : Step) → Leads (laneAfter k) (seatAfter k) c x → Fits k c (told b x)
+  fits-told : (b : List ℕ) (k : List Call) (c : Call) → Holds b k → (x : Step) → Leads (sourceAfter k) (seatAfter k) c x → Fits k c (told b x)
   fits-told b k c H (refuse r) p = record {
     holds = λ real. H;
     sound = λ e. p .0 (let q : r ≡ Damaged = cc in q);
@@ -177,7 +177,7 @@ module _ (laws : StoreLaws) where
   }
 
   fits-step : (b : List ℕ) (k : List Call) (c : Call) → Holds b k → (f : Book → Step)
-      → Leads (laneAfter k) (seatAfter k) c (f (fill (sourcesAfter k) (receiversAfter k))) → Fits k c (onStore f b)
+      → Leads (sourceAfter k) (seatAfter k) c (f (fill (sourcesAfter k) (receiversAfter k))) → Fits k c (onStore f b)
   fits-step b k c H f p =
       subst (Fits k c) (sym (on-store f b _ (H .sound) (H .filled))) (fits-told b k c H (f (fill (sourcesAfter k) (receiversAfter k))) p)
 
@@ -228,7 +228,7 @@ module _ (laws : StoreLaws) where
         levels = λ j r q e.
             ap (λ (o : Answer × List ℕ). o .0)
             (on-store (askReceiver j) (storeAfter h) (fill S R) (H .sound) (H .filled)
-            ∙ ap (told (storeAfter h)) (ask-tells (laneAfter (kept h)) (seatAfter (kept h)) j r q e));
+            ∙ ap (told (storeAfter h)) (ask-tells (sourceAfter (kept h)) (seatAfter (kept h)) j r q e));
       }
     where
       who : (l : List (Option Receiver)) → map (omap (λ x. x .who)) (map (omap (weigh pairOf (standingSources h))) l) ≡ l

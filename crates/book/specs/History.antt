@@ -1,4 +1,4 @@
--- Histories of the book: what a list of calls leaves standing, and the theorems about it (document 01, 'What the book holds').
+-- Histories of the book: what a list of calls leaves standing, and the theorems about it (METHOD 1).
 -- What stands is read off the calls and their answers, never off a store. The theorems say that the store agrees with it, whatever the calls.
 use Prim.Native.Nat.{ℕ, zero, suc, _<_}
 use mathlib.Core.Path.{_≡_}
@@ -167,16 +167,16 @@ NeverLate h = (c : Call) → numberIn (answerTo h c) ≢ 1
 abbrev pub Hears : Source → Receiver → Type 0
 Hears s r = isHeard (pairOf s r) ≡ true
 
--- what a call has to meet, where `lane` and `seat` say who stands in each slot
+-- what a call has to meet, where `source-slot` and `seat` say who stands in each slot
 abbrev pub Rule : (ℕ → Option Source) → (ℕ → Option Receiver) → Call → Type 0
-Rule lane seat Clear = Unit {0}
-Rule lane seat (PlaceSource i s) =
-    (i < sourceSlots) × (sourceVerdict s ≡ Allowed) × (lane i ≡ none) × All (λ r. Hears s r) (present (row receiverSlots seat))
-Rule lane seat (WithdrawSource i) = (i < sourceSlots) × (used (lane i) ≡ true)
-Rule lane seat (PlaceReceiver j r) =
-    (j < receiverSlots) × (receiverVerdict r ≡ Allowed) × (seat j ≡ none) × All (λ s. Hears s r) (present (row sourceSlots lane))
-Rule lane seat (WithdrawReceiver j) = (j < receiverSlots) × (used (seat j) ≡ true)
-Rule lane seat (Ask j) = (j < receiverSlots) × (used (seat j) ≡ true)
+Rule source-slot seat Clear = Unit {0}
+Rule source-slot seat (PlaceSource i s) =
+    (i < sourceSlots) × (sourceVerdict s ≡ Allowed) × (source-slot i ≡ none) × All (λ r. Hears s r) (present (row receiverSlots seat))
+Rule source-slot seat (WithdrawSource i) = (i < sourceSlots) × (used (source-slot i) ≡ true)
+Rule source-slot seat (PlaceReceiver j r) =
+    (j < receiverSlots) × (receiverVerdict r ≡ Allowed) × (seat j ≡ none) × All (λ s. Hears s r) (present (row sourceSlots source-slot))
+Rule source-slot seat (WithdrawReceiver j) = (j < receiverSlots) × (used (seat j) ≡ true)
+Rule source-slot seat (Ask j) = (j < receiverSlots) × (used (seat j) ≡ true)
 
 abbrev pub AcceptsByRule : List Call → Type 0
 AcceptsByRule h = (c : Call) → (accepted (answerTo h c) ≡ true) ↔ Rule (standingSource h) (standingReceiver h) c

@@ -1,4 +1,4 @@
--- Document 01's two records in bytes, read and written by computing.
+-- The two records of METHOD 3 and 11 in bytes, read and written by computing.
 -- Assumes nothing.
 use Prim.Native.Nat.{ℕ}
 use mathlib.Core.Path.{_≡_, refl}

@@ -1,4 +1,4 @@
--- The kinds of record (document 01, 'Units and fields'): for each its layout, what its fields ask for, which are allowed, and its fields again.
+-- The kinds of record (METHOD 3): for each its layout, what its fields ask for, which are allowed, and its fields again.
 -- A new kind is a new row of `kinds` and a new line for its call below it.
 use Prim.Native.Nat.{ℕ, suc, _-_, _^_, max}
 use mathlib.Core.List.{List, [], _∷_, _++_}

@@ -1,4 +1,4 @@
--- What reading and writing a record give, for every input (document 01, 'Numbers a caller may get back'); the kinds are those of `Kinds`.
+-- What reading and writing a record give, for every input (METHOD 3 and 9); the kinds are those of `Kinds`.
 -- The refusals stand in the order of their numbers: the lowest that applies is given.
 use Prim.Native.Nat.{ℕ}
 use mathlib.Core.Bool.{Bool, cond, _||_}

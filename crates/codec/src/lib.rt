@@ -1,4 +1,4 @@
-// Job records (document 01, 'Units and fields'): read from the front of a job, and written, most significant bit first,
+// Job records (METHOD 3): read from the front of a job, and written, most significant bit first,
 // with the level table lent. What each kind says is in `kinds`; refusals and bytes are done here, once for all kinds.
 mod kinds;
 

@@ -1,4 +1,4 @@
-// Runs the figures worked by hand (document 01) through the functions that the book calls, and through the book.
+// Runs the figures worked by hand (METHOD 11) through the functions that the book calls, and through the book.
 // It writes one line for each; the lines to compare with, in the file stdout, are worked from the paper.
 mod cases;
 mod print;

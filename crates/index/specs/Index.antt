@@ -1,4 +1,4 @@
--- The two indices of a point from its sums of energy by day, in the evening and at night (document 01, 'Ask'; VBUS equation 2).
+-- The two indices of a point from its sums of energy by day, in the evening and at night (VBUS equation 2, METHOD 8).
 -- `loudnessOf` is what is heard of a sum: quiet, or a level in hundredths of a dB.
 use Prim.Native.Nat.{ℕ, _+_, _*_, _/_}
 use Rattle.level.specs.Level.{energyOf, loudnessOf}

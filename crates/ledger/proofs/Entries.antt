@@ -8,27 +8,27 @@ use Prim.Native.Nat.{ℕ, _<_}
 use native.Mathlib.Omega.{arith}
 use lib.ListN.{getD}
 use Rattle.answer.specs.declared.Refusal.{Refusal}
-use Rattle.store.specs.declared.Lane.{Lane}
+use Rattle.store.specs.declared.SourceSlot.{SourceSlot}
 use Rattle.store.specs.declared.Seat.{Seat}
-use Rattle.store.specs.Store.{sourceCount, receiverCount, damaged, bookOf, sourceAt, receiverAt, laneOf, seatOf, laneEntry, seatEntry, SourceStands, HeldStands}
-use Rattle.store.proofs.Laws.{lane-is, seat-is, sound-book}
+use Rattle.store.specs.Store.{sourceCount, receiverCount, damaged, bookOf, sourceAt, receiverAt, sourceSlotOf, seatOf, sourceSlotEntry, seatEntry, SourceStands, HeldStands}
+use Rattle.store.proofs.Laws.{source-slot-is, seat-is, sound-book}
 use Rattle.ledger.specs.declared.round.Stop.the-variants.{Nowhere, At}
 use Rattle.ledger.specs.Ledger.{stopOf}
 
 -- ---- slots
 
-module _ (s : List ℕ) (i : ℕ) (h : damaged s ≡ false) (l : i < sourceCount) (t : Lane) (e : t ≡ laneOf (sourceAt i s)) where
-  lane-entry : getD (bookOf s .sources) i none ≡ laneEntry t
-  lane-entry = lane-is s i h l ∙ ap laneEntry (sym e)
+module _ (s : List ℕ) (i : ℕ) (h : damaged s ≡ false) (l : i < sourceCount) (t : SourceSlot) (e : t ≡ sourceSlotOf (sourceAt i s)) where
+  source-slot-entry : getD (bookOf s .sources) i none ≡ sourceSlotEntry t
+  source-slot-entry = source-slot-is s i h l ∙ ap sourceSlotEntry (sym e)
 
-  pub lane-free : t .used ≡ false → getD (bookOf s .sources) i none ≡ none
-  lane-free f = lane-entry ∙ ap (λ (b : Bool). cond b (some (t .source)) none) f
+  pub source-slot-free : t .used ≡ false → getD (bookOf s .sources) i none ≡ none
+  source-slot-free f = source-slot-entry ∙ ap (λ (b : Bool). cond b (some (t .source)) none) f
 
-  pub lane-used : t .used ≡ true → getD (bookOf s .sources) i none ≡ some (t .source)
-  lane-used f = lane-entry ∙ ap (λ (b : Bool). cond b (some (t .source)) none) f
+  pub source-slot-used : t .used ≡ true → getD (bookOf s .sources) i none ≡ some (t .source)
+  source-slot-used f = source-slot-entry ∙ ap (λ (b : Bool). cond b (some (t .source)) none) f
 
-  pub lane-stands : t .used ≡ true → SourceStands (t .source)
-  lane-stands f = sound-book s h .sources-stand i (t .source) (lane-used f)
+  pub source-slot-stands : t .used ≡ true → SourceStands (t .source)
+  source-slot-stands f = sound-book s h .sources-stand i (t .source) (source-slot-used f)
 
 module _ (s : List ℕ) (j : ℕ) (h : damaged s ≡ false) (l : j < receiverCount) (t : Seat) (e : t ≡ seatOf (receiverAt j s)) where
   seat-entry : getD (bookOf s .receivers) j none ≡ seatEntry t

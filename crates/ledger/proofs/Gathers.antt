@@ -22,7 +22,7 @@ use Rattle.road.specs.Pairs.{Pairing, mostShare, shareIn, Bounded}
 use Rattle.road.proofs.Pairs.{heard-most}
 use Rattle.store.specs.declared.Account.{Account}
 use Rattle.level.specs.Level.{top}
-use Rattle.store.specs.Account.{plusOf, roomB, nothing}
+use Rattle.store.specs.Account.{plusOf, room, nothing}
 use Rattle.store.specs.Store.{sourceCount}
 use Rattle.ledger.specs.declared.round.Stop.the-variants.{Nowhere, At}
 use Rattle.ledger.specs.declared.gather.Gathered.{Gathered}
@@ -93,7 +93,7 @@ module _ (pair : Pairing) (bounded : Bounded pair) (r : Receiver) where
             night = part-heard 2 _ (x .night) s e (ap (λ (q : Pair). shareIn q 2) (sym t)) (g .night);
           }
 
-      pub gather-room : (s : Source) (x : Shares) → i < sourceCount → pair s r ≡ Heard x → roomB sums x ≡ true
+      pub gather-room : (s : Source) (x : Shares) → i < sourceCount → pair s r ≡ Heard x → room sums x ≡ true
       gather-room s x b t =
           let k = heard-most pair bounded s r x t in
           let d : sums .day + x .day ≤ top = omega (arith, g .day .small, k 0) in

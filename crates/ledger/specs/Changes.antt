@@ -12,7 +12,7 @@ use Rattle.road.specs.Reach.{pairOf}
 use Rattle.road.specs.Pairs.{Pairing, isHeard, noShares, brought}
 use Rattle.store.specs.declared.Account.{Account}
 use Rattle.store.specs.declared.Held.{Held}
-use Rattle.store.specs.Account.{plusOf, minusOf, covers, roomB}
+use Rattle.store.specs.Account.{plusOf, minusOf, covers, room}
 use Rattle.ledger.specs.Lists.{firstBar}
 
 pub record Change : Type 0 where
@@ -36,7 +36,7 @@ module _ (pair : Pairing) (s : Source) where
   abbrev pub coming : Change
   coming = record {
     tried = λ r. pair s r;
-    fits = λ x. roomB (x .sums) (brought (pair s (x .who)));
+    fits = λ x. room (x .sums) (brought (pair s (x .who)));
     sums = λ x. plusOf (x .sums) (brought (pair s (x .who)));
   }
 

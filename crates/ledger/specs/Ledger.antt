@@ -17,7 +17,7 @@ use Rattle.road.specs.Pairs.{Pairing}
 use Rattle.store.specs.declared.Account.{Account}
 use Rattle.store.specs.declared.Held.{Held}
 use Rattle.store.specs.declared.Seat.{Seat}
-use Rattle.store.specs.Account.{plusOf, minusOf, covers, roomB, soundB, nothing}
+use Rattle.store.specs.Account.{plusOf, minusOf, covers, room, sound, nothing}
 use Rattle.store.specs.Store.{receiverCount, Book, book, HeldStands}
 use Rattle.ledger.specs.declared.round.Turn.{Turn}
 use Rattle.ledger.specs.declared.round.Turn.the-variants.{Moved, Barred, Late}
@@ -33,7 +33,7 @@ use Rattle.ledger.specs.Changes.{Change, follow, barOf}
 -- ---- one receiver
 
 abbrev pub raisedBy : Pair → Account → Turn
-raisedBy (Heard h) a = cond (roomB a h) (Moved (plusOf a h)) Late
+raisedBy (Heard h) a = cond (room a h) (Moved (plusOf a h)) Late
 raisedBy (Bars b) a = Barred b
 
 abbrev pub loweredBy : Pair → Account → Turn
@@ -101,4 +101,4 @@ offerOf r (some s) = offerBy (pairOf s r)
 pub record Gathering (pair : Pairing) (r : Receiver) (l : List (Option Source)) (g : Gathered) : Type 0 where
   pub stop : g .stop ≡ stopOf (firstBar (λ (s : Source). pair s r) 0 l)
   pub sums : firstBar (λ (s : Source). pair s r) 0 l ≡ none → g .sums ≡ weigh pair (present l) r .sums
-  pub sound : firstBar (λ (s : Source). pair s r) 0 l ≡ none → soundB (g .sums) ≡ true
+  pub sound : firstBar (λ (s : Source). pair s r) 0 l ≡ none → sound (g .sums) ≡ true

@@ -41,7 +41,7 @@ fn hear_source(steps: &[u32; 1000], store: &[u8], i: usize, r: Receiver) -> Offe
     if !store::sources::marked(store, i) {
         return Offer::Free;
     }
-    let s = store::sources::lane(store, i).source;
+    let s = store::sources::source_slot(store, i).source;
     let sent = road::emission::send(steps, s);
     match reach::pair(steps, s, sent, r) {
         Pair::Heard(shares) => Offer::Heard(shares),

@@ -1,4 +1,4 @@
--- What is promised of the table, of energies and of levels (document 01, 'Energies and levels'), for numbers of any size.
+-- What is promised of the table, of energies and of levels (METHOD 5), for numbers of any size.
 -- `of-levels` in proofs/Promises.antt is the proof of all of it.
 use mathlib.Core.Path.{_≡_}
 use Prim.Native.Nat.{ℕ, _<_, _≤_}

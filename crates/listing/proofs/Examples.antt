@@ -1,4 +1,4 @@
--- Document 01's lines, computed. Assumes nothing.
+-- The lines that are written out on paper, computed. Assumes nothing.
 -- The numbers are ASCII: 32 is a space, 48 to 57 are the digits, 10 is the line feed.
 use mathlib.Core.Path.{_≡_, refl}
 use mathlib.Core.List.{[], _∷_}

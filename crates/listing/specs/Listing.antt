@@ -1,4 +1,4 @@
--- The lines of the listing (document 01, 'The listing'), as lists of byte values; a comment has the text that they are in ASCII.
+-- The lines of the listing (METHOD 10), as lists of byte values; a comment has the text that they are in ASCII.
 -- A record that is placed or withdrawn has no line.
 use Prim.Native.Nat.{ℕ, zero, suc, _+_, _/_, _%_}
 use mathlib.Core.Bool.{cond}

@@ -1,4 +1,4 @@
-// The lines of the listing (document 01): an ask's two levels, a refusal's number, and the last line with the count.
+// The lines of the listing (METHOD 10): an ask's two levels, a refusal's number, and the last line with the count.
 // A line is written at the front of the bytes that the caller lends; with less room than every line has nothing is written.
 use answer::Refusal;
 use index::Index;

@@ -1,4 +1,4 @@
--- The listing of a whole job (document 01, 'The listing'): for any bytes and any store, the text that the job prints and the store that it leaves.
+-- The listing of a whole job (METHOD 10): for any bytes and any store, the text that the job prints and the store that it leaves.
 -- `doneTo` says what one record does, `lineOf` and `endLine` what is printed.
 use Prim.Native.Nat.{ℕ, zero, suc, _+_, _≤_, _<_}
 use mathlib.Core.Path.{_≡_}

@@ -1,5 +1,5 @@
 -- A call as 44 bytes, most significant first: the kind, the slot (two bytes), and the fields of a source or a receiver, each as wide as its type.
--- The kinds are those of document 01; one that is not listed is an ask.
+-- The kinds are those of METHOD 3; one that is not listed is an ask.
 use Prim.Native.Nat.{ℕ, _+_, _*_}
 use mathlib.Core.List.{List, [], _∷_}
 use lib.ListN.{getD}

@@ -1,4 +1,4 @@
--- The numbers that a caller of records may get back (document 01): reading gives 2 to 7, writing 5 to 7 and the late 2; what is done is 0.
+-- The numbers that a caller of records may get back (METHOD 9): reading gives 2 to 7, writing 5 to 7 and the late 2; what is done is 0.
 -- `numbers` in proofs/Numbers.antt proves both.
 use Prim.Native.Nat.{ℕ}
 use mathlib.Core.Path.{_≡_}

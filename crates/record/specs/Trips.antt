@@ -1,4 +1,4 @@
--- The round trips of a record, for every kind, and its part (document 01, 'Units and fields').
+-- The round trips of a record, for every kind, and its part (METHOD 3).
 -- They are about `readOf` and `writeOf`, the definitions that the contracts cite. `trips` in proofs/Trips.antt proves them all.
 use Prim.Native.Nat.{ℕ, _≤_}
 use mathlib.Core.Path.{_≡_}

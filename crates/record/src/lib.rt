@@ -1,4 +1,4 @@
-// Job records for any caller (document 01, 'Units and fields'): no call here requires anything.
+// Job records for any caller (METHOD 3): no call here requires anything.
 // What a record is, and how it is read and written, is in `codec`; here each call makes the level table that `codec` is lent.
 pub use codec::Reading;
 pub use codec::Request;

@@ -64,9 +64,9 @@ fn again(job: &[u8]) {
 }
 
 fn accepted() {
-    // receiver 5 of document 01
+    // receiver 5 of METHOD 3
     again(b"\x11\x40\x61\xa8\x00\x61\xa8\x32\x00");
-    // ask 5 of document 01
+    // ask 5 of METHOD 3
     again(b"\x51\x40");
     // withdraw receiver 63
     again(b"\x2f\xc0");

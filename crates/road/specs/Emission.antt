@@ -1,4 +1,4 @@
--- What a road gives out (VBUS section 3.5): its emission level and each of its five terms, in the paper's order.
+-- What a road gives out (VBUS section 3.5, METHOD 6): its emission level and each of its five terms, in the paper's order.
 -- `lvOf` and `energyOf` are lv and E; speeds are brought into range before they are used.
 use Prim.Native.Nat.{ℕ, _+_, _-_, _*_, _/_, _%_, _^_, min, max}
 use mathlib.Core.Bool.{Bool, true, false, cond}

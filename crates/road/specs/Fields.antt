@@ -1,4 +1,4 @@
--- The fields of a source and of a receiver (document 01, 'Units and fields'), each once: its number, its bits in a record, its bytes in a
+-- The fields of a source and of a receiver (METHOD 3 and 4), each once: its number, its bits in a record, its bytes in a
 -- slot of the store, its value, and its limits. Records, slots and verdicts are made from these two tables.
 use Prim.Native.Nat.{ℕ, suc, _+_, _*_, _^_, _<_}
 use mathlib.Core.Bool.{cond}

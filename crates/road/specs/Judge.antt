@@ -1,4 +1,4 @@
--- Which fields are allowed (document 01, 'Units and fields'): the first that is not is refused by its number; then surface and speed; then D.
+-- Which fields are allowed (METHOD 4 and 9): the first that is not is refused by its number; then surface and speed; then D.
 -- The fields, their limits and their numbers are the rows of Fields.antt.
 use Prim.Native.Nat.{ℕ}
 use mathlib.Core.Bool.{Bool, cond, _&&_}

@@ -1,4 +1,4 @@
--- What of a road reaches a point (VBUS sections 3.3, 3.4, 3.6 to 3.8 and 3.10): the share level, its terms, and the pair's answer.
+-- What of a road reaches a point (VBUS sections 3.3, 3.4, 3.6 to 3.8 and 3.10, METHOD 7): the share level, its terms, and the pair's answer.
 -- Lengths are in cm. `rootOf` is the root, down.
 use Prim.Native.Nat.{ℕ, _+_, _-_, _*_, _/_, _%_, _^_, min, max}
 use mathlib.Core.Bool.{Bool, true, false, cond, not, _||_}

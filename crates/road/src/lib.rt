@@ -13,7 +13,7 @@ pub struct Traffic {
     pub p: u16,
 }
 
-// A piece of road, document 01's source fields 2 to 19. Lengths are in cm. The gradient is the field's eight bits: 128 for a
+// A piece of road, the source's fields 2 to 19 of METHOD 4. Lengths are in cm. The gradient is the field's eight bits: 128 for a
 // road that falls, and the tenths of a percent.
 pub struct Source {
     pub x: u32,
@@ -31,7 +31,7 @@ pub struct Source {
     pub traffic: [Traffic; 3],
 }
 
-// A point where people live, document 01's receiver fields 2 to 4.
+// A point where people live, the receiver's fields 2 to 4.
 pub struct Receiver {
     pub x: u32,
     pub y: u32,

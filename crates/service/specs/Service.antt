@@ -1,5 +1,5 @@
--- One record at the front of a job, read and done to a store: what comes of it, for any bytes and any store (document 01, 'Numbers a caller
--- may get back': the lowest number that applies is given, so damage comes before what the reader refuses).
+-- One record at the front of a job, read and done to a store: what comes of it, for any bytes and any store
+-- (METHOD 9: the lowest number that applies is given, so damage comes before what the reader refuses).
 use Prim.Native.Nat.{ℕ, _<_}
 use mathlib.Core.Path.{_≡_}
 use mathlib.Core.Logic.{_⊎_, _↔_}

@@ -10,7 +10,7 @@ use Rattle.layout.proofs.Bounds.{both}
 use Rattle.road.specs.declared.Shares.{Shares}
 use Rattle.store.specs.declared.Account.{Account}
 use Rattle.level.specs.Level.{top}
-use Rattle.store.specs.Account.{soundB, plusOf, minusOf, covers}
+use Rattle.store.specs.Account.{sound, plusOf, minusOf, covers}
 
 -- three tests on pairs of numbers
 three : (a b c d e f : ℕ) → (leb a b && leb c d && leb e f) ≡ true → (a ≤ b) × (c ≤ d) × (e ≤ f)
@@ -19,7 +19,7 @@ three a b c d e f h =
     let q = both (leb a b) (leb c d) (p .0) in
     (leb-true a b (q .0), leb-true c d (q .1), leb-true e f (p .1))
 
-pub sound-le : (a : Account) → soundB a ≡ true → (a .day ≤ top) × (a .evening ≤ top) × (a .night ≤ top)
+pub sound-le : (a : Account) → sound a ≡ true → (a .day ≤ top) × (a .evening ≤ top) × (a .night ≤ top)
 sound-le a h = three (a .day) top (a .evening) top (a .night) top h
 
 pub covers-le : (a : Account) (s : Shares) → covers a s ≡ true → (s .day ≤ a .day) × (s .evening ≤ a .evening) × (s .night ≤ a .night)

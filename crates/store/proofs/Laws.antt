@@ -17,7 +17,7 @@ use Rattle.layout.proofs.Numbers.{bytes-append, bytes-drop}
 use Rattle.road.specs.declared.Source.{Source}
 use Rattle.store.specs.declared.Held.{Held}
 use Rattle.store.specs.Slots.{slotBytes, slots, found, slotOf, slotAt, entries, anyTorn, bytes, Each}
-use Rattle.store.specs.Store.{sourceCount, receiverCount, sourceSize, receiverSize, sourceSlots, receiverSlots, split, storeLength, sourceParty, heldParty, Book, book, damaged, bookOf, bookBytes, clearedBytes, emptyBook, SourceStands, HeldStands, SoundBook, sourceAt, receiverAt, laneOf, laneEntry, seatOf, seatEntry}
+use Rattle.store.specs.Store.{sourceCount, receiverCount, sourceSize, receiverSize, sourceSlots, receiverSlots, split, storeLength, sourceParty, heldParty, Book, book, damaged, bookOf, bookBytes, clearedBytes, emptyBook, SourceStands, HeldStands, SoundBook, sourceAt, receiverAt, sourceSlotOf, sourceSlotEntry, seatOf, seatEntry}
 use Rattle.store.proofs.Slots.{either-false, over-behind, length-bytes, bytes-are, length-entries, entry-at, whole-at, set-bytes, bytes-none, bytes-slots, slots-bytes, entries-stand, marked}
 use Rattle.store.proofs.Parties.{source-lawful, held-lawful}
 
@@ -80,7 +80,7 @@ unfolding bookOf
 sound-book s h =
     let u = undamaged s h in
     record {
-      lanes = length-entries sourceParty sourceSlots s ∙ many-sources;
+      source-slots = length-entries sourceParty sourceSlots s ∙ many-sources;
       seats = length-entries heldParty receiverSlots (drop split s) ∙ many-receivers;
       sources-stand = entries-stand sourceParty SourceStands source-lawful sourceSlots s (u .1);
       receivers-stand = entries-stand heldParty HeldStands held-lawful receiverSlots (drop split s) (u .2);
@@ -90,7 +90,7 @@ pub length-bytesOf : (b : Book) → SoundBook b → length (bookBytes b) ≡ sto
 unfolding bookBytes
 length-bytesOf b h =
     length-append (bytes sourceParty (b .sources)) (bytes heldParty (b .receivers))
-    ∙ omega (arith, length-bytes sourceParty (b .sources), length-bytes heldParty (b .receivers), h .lanes, h .seats, many-sources, many-receivers, sources-end, receivers-end)
+    ∙ omega (arith, length-bytes sourceParty (b .sources), length-bytes heldParty (b .receivers), h .source-slots, h .seats, many-sources, many-receivers, sources-end, receivers-end)
 
 pub bytesOf-bytes : (b : Book) → Bytes (bookBytes b)
 unfolding bookBytes
@@ -101,7 +101,7 @@ unfolding bookBytes bookOf
 book-bytes b h =
     let x = bytes sourceParty (b .sources) in
     let y = bytes heldParty (b .receivers) in
-    let e : length (b .sources) ≡ sourceSlots = h .lanes ∙ sym many-sources in
+    let e : length (b .sources) ≡ sourceSlots = h .source-slots ∙ sym many-sources in
     let f : length (b .receivers) ≡ receiverSlots = h .seats ∙ sym many-receivers in
     let d : drop split (x ++ y) ≡ y = drop-at x y split (length-bytes sourceParty (b .sources) ∙ ap (λ (k : ℕ). k * sourceSize) e ∙ sources-end) in
     let p = slots-bytes sourceParty SourceStands source-lawful (b .sources) y (h .sources-stand) in
@@ -121,9 +121,9 @@ book-bytes b h =
 pub seat-place : (j : ℕ) (s : List ℕ) → slotAt heldParty j (drop split s) ≡ receiverAt j s
 seat-place j s = ap (take receiverSize) (drop-drop (j * receiverSize) split s)
 
-pub lane-is : (s : List ℕ) (i : ℕ) → damaged s ≡ false → i < sourceCount → getD (bookOf s .sources) i none ≡ laneEntry (laneOf (sourceAt i s))
-unfolding bookOf laneOf slotOf
-lane-is s i h l =
+pub source-slot-is : (s : List ℕ) (i : ℕ) → damaged s ≡ false → i < sourceCount → getD (bookOf s .sources) i none ≡ sourceSlotEntry (sourceSlotOf (sourceAt i s))
+unfolding bookOf sourceSlotOf slotOf
+source-slot-is s i h l =
     let k : i < sourceSlots = rw many-sources l in
     entry-at sourceParty sourceSlots i s k ∙ marked sourceParty _ (whole-at sourceParty sourceSlots i s k (undamaged s h .1))
 
@@ -136,15 +136,15 @@ seat-is s j h l =
     ∙ ap (λ (t : List ℕ). seatEntry (seatOf t)) (seat-place j s)
 
 -- what the mark of a slot says of the book
-pub lane-used : (s : List ℕ) (i : ℕ) → damaged s ≡ false → i < sourceCount → laneOf (sourceAt i s) .used ≡ true
-    → (getD (bookOf s .sources) i none ≡ some (laneOf (sourceAt i s) .source)) × SourceStands (laneOf (sourceAt i s) .source)
-lane-used s i h l u =
-    let t = laneOf (sourceAt i s) .source in
-    let e = lane-is s i h l ∙ ap (λ (b : Bool). cond b (some t) none) u in
+pub source-slot-used : (s : List ℕ) (i : ℕ) → damaged s ≡ false → i < sourceCount → sourceSlotOf (sourceAt i s) .used ≡ true
+    → (getD (bookOf s .sources) i none ≡ some (sourceSlotOf (sourceAt i s) .source)) × SourceStands (sourceSlotOf (sourceAt i s) .source)
+source-slot-used s i h l u =
+    let t = sourceSlotOf (sourceAt i s) .source in
+    let e = source-slot-is s i h l ∙ ap (λ (b : Bool). cond b (some t) none) u in
     (e, sound-book s h .sources-stand i t e)
 
-pub lane-free : (s : List ℕ) (i : ℕ) → damaged s ≡ false → i < sourceCount → laneOf (sourceAt i s) .used ≡ false → getD (bookOf s .sources) i none ≡ none
-lane-free s i h l u = lane-is s i h l ∙ ap (λ (b : Bool). cond b (some (laneOf (sourceAt i s) .source)) none) u
+pub source-slot-free : (s : List ℕ) (i : ℕ) → damaged s ≡ false → i < sourceCount → sourceSlotOf (sourceAt i s) .used ≡ false → getD (bookOf s .sources) i none ≡ none
+source-slot-free s i h l u = source-slot-is s i h l ∙ ap (λ (b : Bool). cond b (some (sourceSlotOf (sourceAt i s) .source)) none) u
 
 pub seat-used : (s : List ℕ) (j : ℕ) → damaged s ≡ false → j < receiverCount → seatOf (receiverAt j s) .used ≡ true
     → (getD (bookOf s .receivers) j none ≡ some (seatOf (receiverAt j s) .held)) × HeldStands (seatOf (receiverAt j s) .held)
@@ -161,15 +161,15 @@ next : {A : Type 0} (l : List (Option A)) (i n : ℕ) (o : Option A) → length 
 next l i n o e h f = rw add-one (drop-cons l i none (omega arith) ∙ ap (λ x. x ∷ drop (suc i) l) f)
 
 pub next-source : (s : List ℕ) (i : ℕ) → damaged s ≡ false → i < sourceCount
-    → drop i (bookOf s .sources) ≡ laneEntry (laneOf (sourceAt i s)) ∷ drop (i + 1) (bookOf s .sources)
-next-source s i h l = next (bookOf s .sources) i sourceCount _ (sound-book s h .lanes) l (lane-is s i h l)
+    → drop i (bookOf s .sources) ≡ sourceSlotEntry (sourceSlotOf (sourceAt i s)) ∷ drop (i + 1) (bookOf s .sources)
+next-source s i h l = next (bookOf s .sources) i sourceCount _ (sound-book s h .source-slots) l (source-slot-is s i h l)
 
 pub next-held : (s : List ℕ) (j : ℕ) → damaged s ≡ false → j < receiverCount
     → drop j (bookOf s .receivers) ≡ seatEntry (seatOf (receiverAt j s)) ∷ drop (j + 1) (bookOf s .receivers)
 next-held s j h l = next (bookOf s .receivers) j receiverCount _ (sound-book s h .seats) l (seat-is s j h l)
 
 pub no-source-left : (s : List ℕ) (i : ℕ) → damaged s ≡ false → sourceCount ≤ i → drop i (bookOf s .sources) ≡ []
-no-source-left s i h l = drop-of-length-le (bookOf s .sources) {i = i} (omega (arith, sound-book s h .lanes))
+no-source-left s i h l = drop-of-length-le (bookOf s .sources) {i = i} (omega (arith, sound-book s h .source-slots))
 
 pub no-held-left : (s : List ℕ) (j : ℕ) → damaged s ≡ false → receiverCount ≤ j → drop j (bookOf s .receivers) ≡ []
 no-held-left s j h l = drop-of-length-le (bookOf s .receivers) {i = j} (omega (arith, sound-book s h .seats))
@@ -181,7 +181,7 @@ pub set-source : (s : List ℕ) (i : ℕ) (o : Option Source) → Bytes s → da
 unfolding bookBytes
 set-source s i o b h l =
     ap (over (i * sourceSize) (slotBytes sourceParty o)) (sym (bytes-book s b h))
-    ∙ set-bytes sourceParty (bookOf s .sources) i o (bytes heldParty (bookOf s .receivers)) (omega (arith, sound-book s h .lanes))
+    ∙ set-bytes sourceParty (bookOf s .sources) i o (bytes heldParty (bookOf s .receivers)) (omega (arith, sound-book s h .source-slots))
 
 pub set-held : (s : List ℕ) (j : ℕ) (o : Option Held) → Bytes s → damaged s ≡ false → j < receiverCount
     → over (split + j * receiverSize) (slotBytes heldParty o) s ≡ bookBytes (book (bookOf s .sources) (set (bookOf s .receivers) j o))
@@ -190,7 +190,7 @@ set-held s j o b h l =
     let x = bytes sourceParty (bookOf s .sources) in
     let y = bytes heldParty (bookOf s .receivers) in
     let k = sound-book s h in
-    let n : length x ≡ split = length-bytes sourceParty (bookOf s .sources) ∙ ap (λ (m : ℕ). m * sourceSize) (k .lanes ∙ sym many-sources) ∙ sources-end in
+    let n : length x ≡ split = length-bytes sourceParty (bookOf s .sources) ∙ ap (λ (m : ℕ). m * sourceSize) (k .source-slots ∙ sym many-sources) ∙ sources-end in
     ap (over (split + j * receiverSize) (slotBytes heldParty o)) (sym (bytes-book s b h))
     ∙ over-behind x (slotBytes heldParty o) y split (j * receiverSize) n
     ∙ ap (λ (t : List ℕ). x ++ t)
@@ -210,7 +210,7 @@ pub sound-source : (b : Book) (i : ℕ) (o : Option Source) → SoundBook b → 
     → SoundBook (book (set (b .sources) i o) (b .receivers))
 sound-source b i o h k =
     record {
-      lanes = length-set (b .sources) i o ∙ h .lanes;
+      source-slots = length-set (b .sources) i o ∙ h .source-slots;
       seats = h .seats;
       sources-stand = each-set SourceStands (b .sources) i o (h .sources-stand) k;
       receivers-stand = h .receivers-stand;
@@ -220,7 +220,7 @@ pub sound-held : (b : Book) (j : ℕ) (o : Option Held) → SoundBook b → ((a 
     → SoundBook (book (b .sources) (set (b .receivers) j o))
 sound-held b j o h k =
     record {
-      lanes = h .lanes;
+      source-slots = h .source-slots;
       seats = length-set (b .receivers) j o ∙ h .seats;
       sources-stand = h .sources-stand;
       receivers-stand = each-set HeldStands (b .receivers) j o (h .receivers-stand) k;
@@ -265,7 +265,7 @@ each-none P (suc n) (suc i) a e = each-none P n i a e
 pub sound-empty : SoundBook emptyBook
 sound-empty =
     record {
-      lanes = length-replicate {A = Option Source} sourceSlots none ∙ many-sources;
+      source-slots = length-replicate {A = Option Source} sourceSlots none ∙ many-sources;
       seats = length-replicate {A = Option Held} receiverSlots none ∙ many-receivers;
       sources-stand = each-none SourceStands sourceSlots;
       receivers-stand = each-none HeldStands receiverSlots;

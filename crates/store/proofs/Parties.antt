@@ -14,15 +14,15 @@ use Rattle.road.specs.Judge.{sourceVerdict, receiverVerdict}
 use Rattle.road.proofs.Rows.{source-again, source-values-again, all-of}
 use Rattle.road.proofs.Fit.{source-in-slot, receiver-in-slot}
 use Rattle.store.specs.declared.Held.{Held}
-use Rattle.store.specs.Account.{soundB}
+use Rattle.store.specs.Account.{sound}
 use Rattle.store.specs.Slots.{partyLayout}
-use Rattle.store.specs.Store.{allowedB, sourceParty, heldFields, heldFrom, heldParty, SourceStands, HeldStands}
+use Rattle.store.specs.Store.{isAllowed, sourceParty, heldFields, heldFrom, heldParty, SourceStands, HeldStands}
 use Rattle.store.proofs.Accounts.{sound-le}
 use Rattle.store.proofs.Slots.{Lawful, two-within}
 
 -- ---- sources
 
-allowed-is : (v : Verdict) → allowedB v ≡ true → v ≡ Allowed
+allowed-is : (v : Verdict) → isAllowed v ≡ true → v ≡ Allowed
 allowed-is Allowed e = refl
 allowed-is (Refused why) e = absurd (let z : _≡_ {A = ℕ} 0 1 = cc in omega arith)
 
@@ -36,7 +36,7 @@ source-lawful =
       refilled = λ m fs e. source-values-again fs e;
       reread = λ s h. source-again s (h .1);
       fits = λ s h. source-fits s (h .0);
-      okay = λ s h. ap allowedB (h .0);
+      okay = λ s h. ap isAllowed (h .0);
       stands = λ vs h. (allowed-is (sourceVerdict (sourceParty .from vs)) h, refl);
     }
 
@@ -52,7 +52,7 @@ held-fits h k =
 held-stands : (vs : List ℕ) → heldParty .ok (heldFrom vs) ≡ true → HeldStands (heldFrom vs)
 held-stands vs e =
     let h = heldFrom vs in
-    let t = both (allowedB (receiverVerdict (h .who))) (soundB (h .sums)) e in
+    let t = both (isAllowed (receiverVerdict (h .who))) (sound (h .sums)) e in
     (allowed-is (receiverVerdict (h .who)) (t .0), t .1)
 
 pub held-lawful : Lawful heldParty HeldStands

@@ -29,8 +29,8 @@ wipe-settled l a = settled _ _
 marked-settled : SettlesResult proofs.sources.marked.Reads.Post
 marked-settled l a = settled _ _
 
-lane-settled : SettlesResult proofs.sources.lane.Reads.Post
-lane-settled l a = settled _ _
+source-slot-settled : SettlesResult proofs.sources.source_slot.Reads.Post
+source-slot-settled l a = settled _ _
 
 put-source-settled : Settles (λ l a r e. now (e .0)) proofs.sources.put_source.Reads.Post
 put-source-settled l a = settled _ _

@@ -1,4 +1,4 @@
--- A receiver's account (document 01, 'What the book holds'): three energy sums, to which a source's three shares are added or from which they
+-- A receiver's account (METHOD 1): three energy sums, to which a source's three shares are added or from which they
 -- are taken.
 use Prim.Native.Nat.{ℕ, _+_, _-_}
 use mathlib.Core.Bool.{Bool, _&&_}
@@ -8,8 +8,8 @@ use Rattle.road.specs.declared.Shares.{Shares}
 use Rattle.store.specs.declared.Account.{Account}
 
 -- no sum is above it
-abbrev pub soundB : Account → Bool
-soundB a = leb (a .day) top && leb (a .evening) top && leb (a .night) top
+abbrev pub sound : Account → Bool
+sound a = leb (a .day) top && leb (a .evening) top && leb (a .night) top
 
 -- the shares added
 abbrev pub plusOf : Account → Shares → Account
@@ -24,8 +24,8 @@ abbrev pub covers : Account → Shares → Bool
 covers a s = leb (s .day) (a .day) && leb (s .evening) (a .evening) && leb (s .night) (a .night)
 
 -- the shares lift no sum above the most it may be
-abbrev pub roomB : Account → Shares → Bool
-roomB a s = soundB (plusOf a s)
+abbrev pub room : Account → Shares → Bool
+room a s = sound (plusOf a s)
 
 -- an account before any share
 abbrev pub nothing : Account

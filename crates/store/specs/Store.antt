@@ -14,9 +14,9 @@ use Rattle.road.specs.Fields.{sourceTable, receiverTable, sourceOf, receiverOf,
 use Rattle.road.specs.Judge.{sourceVerdict, receiverVerdict}
 use Rattle.store.specs.declared.Account.{Account}
 use Rattle.store.specs.declared.Held.{Held}
-use Rattle.store.specs.declared.Lane.{Lane}
+use Rattle.store.specs.declared.SourceSlot.{SourceSlot}
 use Rattle.store.specs.declared.Seat.{Seat}
-use Rattle.store.specs.Account.{soundB}
+use Rattle.store.specs.Account.{sound}
 use Rattle.store.specs.Slots.{Party, partyLayout, slotSize, found, entries, anyTorn, bytes, Each}
 
 -- ---- how many slots there are: each number is said here and, for the code, in src/lib.rt
@@ -44,9 +44,9 @@ receiverSlots = receiverCount
 
 -- ---- the two parties: place 0 of a slot's numbers is the mark, and the rows of road's tables follow it
 
-abbrev pub allowedB : Verdict → Bool
-allowedB Allowed = true
-allowedB (Refused why) = false
+abbrev pub isAllowed : Verdict → Bool
+isAllowed Allowed = true
+isAllowed (Refused why) = false
 
 -- a used source breaks none of 5, 6 and 7
 abbrev pub sourceParty : Party Source
@@ -56,7 +56,7 @@ sourceParty =
       count = sourceSlots;
       from = λ v. sourceOf (drop 1 v);
       to = valuesBy sourceTable;
-      ok = λ s. allowedB (sourceVerdict s);
+      ok = λ s. isAllowed (sourceVerdict s);
     }
 
 -- the account whose sums stand from place k on
@@ -78,7 +78,7 @@ heldParty =
       count = receiverSlots;
       from = heldFrom;
       to = heldFields;
-      ok = λ h. allowedB (receiverVerdict (h .who)) && soundB (h .sums);
+      ok = λ h. isAllowed (receiverVerdict (h .who)) && sound (h .sums);
     }
 
 -- ---- sizes in bytes
@@ -105,7 +105,7 @@ pub record Book : Type 0 where
 abbrev pub book : List (Option Source) → List (Option Held) → Book
 book ss rs = record { sources = ss; receivers = rs }
 
--- document 01, 'Damaged, before all else': wrong length; a use mark neither yes nor no; an unused slot not all zero; a used slot breaking
+-- METHOD 9, 'damaged': wrong length; a use mark neither yes nor no; an unused slot not all zero; a used slot breaking
 -- 5, 6 or 7; a sum above 512·10^15
 unfoldable pub damaged : List ℕ → Bool
 damaged s =
@@ -131,10 +131,10 @@ abbrev pub SourceStands : Source → Type 0
 SourceStands s = (sourceVerdict s ≡ Allowed) × (length (s .traffic) ≡ 3)
 
 abbrev pub HeldStands : Held → Type 0
-HeldStands h = (receiverVerdict (h .who) ≡ Allowed) × (soundB (h .sums) ≡ true)
+HeldStands h = (receiverVerdict (h .who) ≡ Allowed) × (sound (h .sums) ≡ true)
 
 pub record SoundBook (b : Book) : Type 0 where
-  pub lanes : length (b .sources) ≡ sourceCount
+  pub source-slots : length (b .sources) ≡ sourceCount
   pub seats : length (b .receivers) ≡ receiverCount
   pub sources-stand : Each SourceStands (b .sources)
   pub receivers-stand : Each HeldStands (b .receivers)
@@ -148,11 +148,11 @@ sourceAt i s = take sourceSize (drop (i * sourceSize) s)
 abbrev pub receiverAt : ℕ → List ℕ → List ℕ
 receiverAt j s = take receiverSize (drop (split + j * receiverSize) s)
 
-abbrev pub laneBy : List ℕ → Lane
-laneBy v = record { used = eqb (getD v 0 0) 1; source = sourceParty .from v }
+abbrev pub sourceSlotBy : List ℕ → SourceSlot
+sourceSlotBy v = record { used = eqb (getD v 0 0) 1; source = sourceParty .from v }
 
-unfoldable pub laneOf : List ℕ → Lane
-laneOf s = laneBy (fields (partyLayout sourceParty) s)
+unfoldable pub sourceSlotOf : List ℕ → SourceSlot
+sourceSlotOf s = sourceSlotBy (fields (partyLayout sourceParty) s)
 
 abbrev pub seatBy : List ℕ → Seat
 seatBy v = record { used = eqb (getD v 0 0) 1; held = heldFrom v }
@@ -161,8 +161,8 @@ unfoldable pub seatOf : List ℕ → Seat
 seatOf s = seatBy (fields (partyLayout heldParty) s)
 
 -- who is in it
-abbrev pub laneEntry : Lane → Option Source
-laneEntry l = cond (l .used) (some (l .source)) none
+abbrev pub sourceSlotEntry : SourceSlot → Option Source
+sourceSlotEntry l = cond (l .used) (some (l .source)) none
 
 abbrev pub seatEntry : Seat → Option Held
 seatEntry t = cond (t .used) (some (t .held)) none

@@ -14,7 +14,7 @@ ghost use lib.Dec.{leb};
 ghost use Prim.Native.Nat.{_+_};
 ghost use Rattle.level.specs.Table.{table};
 ghost use Rattle.level.specs.Level.{top};
-ghost use Rattle.store.specs.Account.{soundB, plusOf, minusOf, covers, roomB};
+ghost use Rattle.store.specs.Account.{sound, plusOf, minusOf, covers, room};
 ghost use Rattle.store.specs.Store.{storeLength, damaged, clearedBytes};
 
 // How many source slots and how many receiver slots a book has.
@@ -55,7 +55,7 @@ pub struct Held {
 }
 
 // A source slot as it is read: whether its mark says used, and its fields as they stand.
-pub struct Lane {
+pub struct SourceSlot {
     pub used: bool,
     pub source: Source,
 }
@@ -79,14 +79,14 @@ fn fits(x: u64, y: u64) -> bool
 impl Account {
     // Whether no sum is above TOP.
     pub fn sound(self) -> bool
-        ensures { λ r. ⌜ r ≡ soundB self ⌝ }
+        ensures { λ r. ⌜ r ≡ sound self ⌝ }
     {
         (self.day <= TOP) & (self.evening <= TOP) & (self.night <= TOP)
     }
 
     // Whether the shares lift no sum above TOP.
     pub fn room(self, s: Shares) -> bool
-        ensures { λ r. ⌜ r ≡ roomB self s ⌝ }
+        ensures { λ r. ⌜ r ≡ room self s ⌝ }
     {
         fits(self.day, s.day) & fits(self.evening, s.evening) & fits(self.night, s.night)
     }
@@ -100,7 +100,7 @@ impl Account {
 
     // The account with the shares added.
     pub fn plus(self, s: Shares) -> Account
-        requires { ⌜ roomB self s ≡ true ⌝ }
+        requires { ⌜ room self s ≡ true ⌝ }
         ensures { λ r. ⌜ r ≡ plusOf self s ⌝ }
     {
         Account {

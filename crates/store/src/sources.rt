@@ -1,8 +1,8 @@
 // Source slots, from the start of the store on.
 // Numbers are those of a slot, its use mark first.
-use crate::Lane;
 use crate::SOURCE_SIZE;
 use crate::SOURCES;
+use crate::SourceSlot;
 use crate::slot;
 use road::Source;
 use road::Verdict;
@@ -21,7 +21,7 @@ ghost use Rattle.road.specs.declared.Verdict.the-variants.{Allowed};
 ghost use Rattle.road.specs.Fields.{sourceTable, valuesBy, Fit};
 ghost use Rattle.road.specs.Judge.{sourceVerdict};
 ghost use Rattle.store.specs.Slots.{partyLayout, slotBy, slotBytes, found, isTorn, anyTorn};
-ghost use Rattle.store.specs.Store.{sourceCount, sourceSize, storeLength, sourceParty, sourceAt, laneOf};
+ghost use Rattle.store.specs.Store.{sourceCount, sourceSize, storeLength, sourceParty, sourceAt, sourceSlotOf};
 
 // A slot's numbers: its mark and a source's values.
 const NUMBERS: usize = 1 + SOURCE.len();
@@ -63,7 +63,7 @@ fn numbers(store: &[u8], i: usize) -> [u64; NUMBERS]
 // Whether the mark of slot i says used: a look at one byte, for walks over slots of which few are.
 pub fn marked(store: &[u8], i: usize) -> bool
     requires { ⌜ (i < sourceCount) × (length (now store) ≡ storeLength) ⌝ }
-    ensures { λ r. ⌜ r ≡ laneOf (sourceAt i (now (store .entry))) .used ⌝ }
+    ensures { λ r. ⌜ r ≡ sourceSlotOf (sourceAt i (now (store .entry))) .used ⌝ }
 {
     let at = i * SOURCE_SIZE;
     let mark = layout::field(&store[at..at + SOURCE_SIZE], 0, 8);
@@ -71,14 +71,14 @@ pub fn marked(store: &[u8], i: usize) -> bool
 }
 
 // Slot i as it stands.
-pub fn lane(store: &[u8], i: usize) -> Lane
+pub fn source_slot(store: &[u8], i: usize) -> SourceSlot
     requires { ⌜ (i < sourceCount) × (length (now store) ≡ storeLength) ⌝ }
-    ensures { λ r. ⌜ r ≡ laneOf (sourceAt i (now (store .entry))) ⌝ }
+    ensures { λ r. ⌜ r ≡ sourceSlotOf (sourceAt i (now (store .entry))) ⌝ }
 {
     let v = numbers(store, i);
     let source = fields::source_of(&v, 1);
     let used = v[0] == 1;
-    Lane { used, source }
+    SourceSlot { used, source }
 }
 
 // Whether numbers are neither all zero nor those of a source in use.

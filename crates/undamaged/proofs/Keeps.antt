@@ -68,7 +68,7 @@ moved-stand f p (some x ∷ l) h e k (suc j) y q = moved-stand f p l (λ i. h (s
 moved-sound : (b : Book) (f : Held → Held) (p : Held → Bool) → SoundBook b → every p (present (b .receivers)) ≡ true
     → ((x : Held) → HeldStands x → p x ≡ true → HeldStands (f x)) → SoundBook (book (b .sources) (map (omap f) (b .receivers)))
 moved-sound b f p h e k = record {
-  lanes = h .lanes;
+  source-slots = h .source-slots;
   seats = length-map (b .receivers) (omap f) ∙ h .seats;
   sources-stand = h .sources-stand;
   receivers-stand = moved-stand f p (b .receivers) (h .receivers-stand) e k;
@@ -111,7 +111,7 @@ module _ (b : Book) (h : SoundBook b) where
       let same : weigh pairOf (present (b .sources)) r ≡ a = cc in
       subst HeldStands same (
         slot-allowed lastReceiver j (receiverVerdict r) v .1,
-        weigh-sound pairOf pair-bounded (b .sources) r (h .lanes ∙ sym many-sources),
+        weigh-sound pairOf pair-bounded (b .sources) r (h .source-slots ∙ sym many-sources),
       )
       ))
 

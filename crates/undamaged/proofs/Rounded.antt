@@ -18,7 +18,7 @@ use Rattle.store.specs.declared.Account.{Account}
 use Rattle.store.specs.declared.Held.{Held}
 use Rattle.store.specs.declared.Seat.{Seat}
 use Rattle.level.specs.Level.{top}
-use Rattle.store.specs.Account.{soundB, minusOf}
+use Rattle.store.specs.Account.{sound, minusOf}
 use Rattle.store.specs.Store.{receiverCount, Book, HeldStands, SoundBook}
 use Rattle.store.proofs.Accounts.{sound-le}
 use Rattle.ledger.specs.declared.round.Stop.the-variants.{Nowhere, At}
@@ -64,9 +64,9 @@ not-back false false e = e
 -- ---- a change that keeps every sum in its bounds
 
 abbrev pub KeepsSound : Change → Type 0
-KeepsSound c = (x : Held) → soundB (x .sums) ≡ true → c .fits x ≡ true → soundB (c .sums x) ≡ true
+KeepsSound c = (x : Held) → sound (x .sums) ≡ true → c .fits x ≡ true → sound (c .sums x) ≡ true
 
-less-sound : (a : Account) (h : Shares) → soundB a ≡ true → soundB (minusOf a h) ≡ true
+less-sound : (a : Account) (h : Shares) → sound a ≡ true → sound (minusOf a h) ≡ true
 less-sound a h e =
     let l = sound-le a e in
     ap₂ _&&_ (ap₂ _&&_ (le-leb (a .day - h .day) top (omega (arith, l .0, sub-le (a .day) (h .day)))) (le-leb (a .evening - h .evening) top (omega (arith, l .1, sub-le (a .evening) (h .evening)))))

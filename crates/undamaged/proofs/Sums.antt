@@ -17,7 +17,7 @@ use Rattle.road.specs.declared.Pair.the-variants.{Heard, Barred}
 use Rattle.road.specs.Reach.{pairOf}
 use Rattle.road.specs.Pairs.{Pairing, isHeard, mostShare, shareIn, Bounded}
 use Rattle.level.specs.Level.{top}
-use Rattle.store.specs.Account.{soundB}
+use Rattle.store.specs.Account.{sound}
 use Rattle.store.specs.Store.{sourceCount, sourceSlots}
 use Rattle.store.proofs.Laws.{many-sources}
 use Rattle.ledger.specs.Lists.{present, All, sumOf, orBar, firstBar, weigh}
@@ -63,7 +63,7 @@ abbrev pub HearsAll : List Source → Receiver → Type 0
 HearsAll ss r = All (λ s. isHeard (pairOf s r) ≡ true) ss
 
 -- a source a slot at most, each of at most 10^15: no sum passes the most that it may be
-pub weigh-sound : (pair : Pairing) → Bounded pair → (S : List (Option Source)) (r : Receiver) → length S ≡ sourceSlots → soundB (weigh pair (present S) r .sums) ≡ true
+pub weigh-sound : (pair : Pairing) → Bounded pair → (S : List (Option Source)) (r : Receiver) → length S ≡ sourceSlots → sound (weigh pair (present S) r .sums) ≡ true
 weigh-sound pair bounded S r e = and-both (and-both (below 0) (below 1)) (below 2)
   where
     all : (k : ℕ) (l : List Source) → All (λ s. shareIn (pair s r) k ≤ mostShare) l

@@ -1,4 +1,4 @@
--- What each call of the book answers and leaves, in terms of the book: two lists of slots (document 01, 'What the book holds').
+-- What each call of the book answers and leaves, in terms of the book: two lists of slots (METHOD 1 and 9).
 -- A call on bytes reads them as a book, asks one of these definitions, and writes the book that it gives.
 use Prim.Native.Nat.{ℕ}
 use mathlib.Core.Bool.{Bool, true, false, cond}

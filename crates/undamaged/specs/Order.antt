@@ -1,4 +1,4 @@
--- In which order a call refuses (document 01: the lowest number that applies, 10 to 13 pair by pair, the late 1 after all else).
+-- In which order a call refuses (METHOD 9: the lowest number that applies, 10 to 13 pair by pair, the late 1 after all else).
 -- Each line says what is answered whatever holds of the tests behind it; `in-order` of proofs/Answered.antt proves them.
 use Prim.Native.Nat.{ℕ}
 use mathlib.Core.Path.{_≡_}

@@ -67,8 +67,8 @@ fn enter_source(steps: &[u32; 1000], store: &mut [u8], i: usize, s: Source) -> A
     requires { ⌜ (now steps ≡ table) × (damaged (now store) ≡ false) × (i < sourceCount) × (sourceVerdict s ≡ Allowed) ⌝ }
     ensures { λ r. ⌜ (r, now (store .exit)) ≡ told (now (store .entry)) (enterSource i s (bookOf (now (store .entry)))) ⌝ }
 {
-    let lane = store::sources::lane(store, i);
-    if lane.used {
+    let source_slot = store::sources::source_slot(store, i);
+    if source_slot.used {
         return Answer::Refused(Refusal::Taken);
     }
     change_source(steps, store, i, s, true)
@@ -91,11 +91,11 @@ fn leave_source(steps: &[u32; 1000], store: &mut [u8], i: usize) -> Answer
     requires { ⌜ (now steps ≡ table) × (damaged (now store) ≡ false) × (i < sourceCount) ⌝ }
     ensures { λ r. ⌜ (r, now (store .exit)) ≡ told (now (store .entry)) (leaveSource i (bookOf (now (store .entry)))) ⌝ }
 {
-    let lane = store::sources::lane(store, i);
-    if !lane.used {
+    let source_slot = store::sources::source_slot(store, i);
+    if !source_slot.used {
         return Answer::Refused(Refusal::Vacant);
     }
-    change_source(steps, store, i, lane.source, false)
+    change_source(steps, store, i, source_slot.source, false)
 }
 
 // Withdraws a source.

@@ -9,7 +9,7 @@ use Rattle.road.specs.Reach.{pairOf}
 use Rattle.store.specs.Store.{bookOf}
 use Rattle.store.proofs.Laws.{undamaged}
 use Rattle.ledger.specs.Changes.{coming}
-use Rattle.ledger.proofs.Entries.{lane-free, lane-used}
+use Rattle.ledger.proofs.Entries.{source-slot-free, source-slot-used}
 use Rattle.undamaged.specs.declared.Answer.{Answer}
 use Rattle.undamaged.specs.Calls.{told, intoFree, changeSource}
 use Rattle.undamaged.proofs.enter_source.Statement.{statement}
@@ -21,8 +21,8 @@ in-slot c o =
     let a = c .args in
     told (a .store .now) (intoFree o (changeSource (coming pairOf (a .s)) (a .i) (some (a .s)) (bookOf (a .store .now))))
 
-lane-requires : tie.Need-lane-requires
-lane-requires c κs = let start = c .before .before in (start .pre .2, undamaged (start .args .store .now) (start .pre .1) .0)
+source-slot-requires : tie.Need-source-slot-requires
+source-slot-requires c κs = let start = c .before .before in (start .pre .2, undamaged (start .args .store .now) (start .pre .1) .0)
 
 same-length : tie.Need-same-length
 same-length c = search needs
@@ -31,7 +31,7 @@ returns : tie.Need-returns
 returns c =
     let t = c .before in
     let start = t .before .before .before in
-    ap (in-slot start) (sym (lane-used (start .args .store .now) (start .args .i) (start .pre .1) (start .pre .2) (t .lane .result) (t .lane .ensures) (c .if1 .taken)))
+    ap (in-slot start) (sym (source-slot-used (start .args .store .now) (start .args .i) (start .pre .1) (start .pre .2) (t .source-slot .result) (t .source-slot .ensures) (c .if1 .taken)))
 
 change-source-requires : tie.Need-change-source-requires
 change-source-requires c κs = let start = c .before .before .before .before .before in start .pre
@@ -44,8 +44,8 @@ returns-2 c =
     let p = c .before .before in
     let t = p .before .before .before in
     let start = t .before .before .before in
-    let free = lane-free (start .args .store .now) (start .args .i) (start .pre .1) (start .pre .2) (t .lane .result) (t .lane .ensures) (p .before .before .if1 .left) in
+    let free = source-slot-free (start .args .store .now) (start .args .i) (start .pre .1) (start .pre .2) (t .source-slot .result) (t .source-slot .ensures) (p .before .before .if1 .left) in
     p .change-source .ensures ∙ ap (in-slot start) (sym free)
 
 pub enter-source-spec : {M : Type 1} → statement M
-enter-source-spec = tie.close (tie.spec lane-requires same-length returns change-source-requires same-length-2 returns-2)
+enter-source-spec = tie.close (tie.spec source-slot-requires same-length returns change-source-requires same-length-2 returns-2)

@@ -64,7 +64,7 @@ hear-source-requires c κs = let start = c .before .before .before in (start .pr
 within : (c : tie.After-hear-source Inv-loop μ-loop) → c .before .before .loop .i < length (bookOf (c .before .before .before .before .args .store .now) .sources)
 within c =
     let start = c .before .before .before .before in
-    omega (arith, sound-book (start .args .store .now) (start .pre .1) .lanes, c .before .loop-test .taken)
+    omega (arith, sound-book (start .args .store .now) (start .pre .1) .source-slots, c .before .loop-test .taken)
 
 enum-told : tie.Need-enum-told Inv-loop μ-loop
 enum-told c = search needs
@@ -129,7 +129,7 @@ returns c =
 returns-2 : tie.Need-returns-2 Inv-loop μ-loop
 returns-2 c =
     let start = c .before .before .before in
-    gather-over pairOf pair-bounded (start .args .r) (bookOf (start .args .store .now) .sources) (c .before .loop .sums) (c .before .loop .i) (omega (arith, sound-book (start .args .store .now) (start .pre .1) .lanes, c .loop-test .left)) (c .before .loop .inv .0) (c .before .loop .inv .1)
+    gather-over pairOf pair-bounded (start .args .r) (bookOf (start .args .store .now) .sources) (c .before .loop .sums) (c .before .loop .i) (omega (arith, sound-book (start .args .store .now) (start .pre .1) .source-slots, c .loop-test .left)) (c .before .loop .inv .0) (c .before .loop .inv .1)
 
 pub gather-spec : {M : Type 1} → statement M
 gather-spec = tie.close (tie.spec Inv-loop μ-loop loop-holds hear-source-requires enum-told add-i loop-less loop-again enum-known-shares plus-requires add-i-2 loop-less-2 loop-again-2 enum-known-bar cast-bar-at bar-at-requires returns returns-2)

@@ -7,11 +7,11 @@ use mathlib.Core.Option.{none}
 use borrow.Author.Tests.{not-true, not-false}
 use lib.ListN.{getD}
 use Rattle.road.specs.declared.Pair.{Pair}
-use Rattle.store.specs.declared.Lane.{Lane}
-use Rattle.store.specs.Store.{bookOf, sourceAt, laneOf, SourceStands}
+use Rattle.store.specs.declared.SourceSlot.{SourceSlot}
+use Rattle.store.specs.Store.{bookOf, sourceAt, sourceSlotOf, SourceStands}
 use Rattle.store.proofs.Laws.{undamaged}
 use Rattle.ledger.specs.Ledger.{offerBy, offerOf}
-use Rattle.ledger.proofs.Entries.{lane-free, lane-used, lane-stands}
+use Rattle.ledger.proofs.Entries.{source-slot-free, source-slot-used, source-slot-stands}
 use Rattle.ledger.proofs.gather.hear_source.Statement.{statement}
 use Rattle.ledger.proofs.gather.hear_source.Tie as tie
 
@@ -23,20 +23,20 @@ returns c =
     let start = c .before .before .before in
     let s = start .args .store .now in
     let i = start .args .i in
-    let free = lane-free s i (start .pre .1) (start .pre .2) (laneOf (sourceAt i s)) refl (sym (c .before .marked .ensures) ∙ not-true _ (c .if1 .taken)) in
+    let free = source-slot-free s i (start .pre .1) (start .pre .2) (sourceSlotOf (sourceAt i s)) refl (sym (c .before .marked .ensures) ∙ not-true _ (c .if1 .taken)) in
     ap (offerOf (start .args .r)) (sym free)
 
-lane-requires : tie.Need-lane-requires
-lane-requires c κs = let start = c .before .before .before in (start .pre .2, undamaged (start .args .store .now) (start .pre .1) .0)
+source-slot-requires : tie.Need-source-slot-requires
+source-slot-requires c κs = let start = c .before .before .before in (start .pre .2, undamaged (start .args .store .now) (start .pre .1) .0)
 
 -- the slot is in use
-in-use : (c : tie.After-lane) → c .lane .result .used ≡ true
-in-use c = ap (λ (t : Lane). t .used) (c .lane .ensures) ∙ sym (c .before .before .marked .ensures) ∙ not-false _ (c .before .if1 .left)
+in-use : (c : tie.After-source-slot) → c .source-slot .result .used ≡ true
+in-use c = ap (λ (t : SourceSlot). t .used) (c .source-slot .ensures) ∙ sym (c .before .before .marked .ensures) ∙ not-false _ (c .before .if1 .left)
 
-stands : (c : tie.After-lane) → SourceStands (c .lane .result .source)
+stands : (c : tie.After-source-slot) → SourceStands (c .source-slot .result .source)
 stands c =
     let start = c .before .before .before .before in
-    lane-stands (start .args .store .now) (start .args .i) (start .pre .1) (start .pre .2) (c .lane .result) (c .lane .ensures) (in-use c)
+    source-slot-stands (start .args .store .now) (start .args .i) (start .pre .1) (start .pre .2) (c .source-slot .result) (c .source-slot .ensures) (in-use c)
 
 send-requires : tie.Need-send-requires
 send-requires c κs = let t = c .before in (t .before .before .before .before .pre .0, stands t .0)
@@ -59,7 +59,7 @@ offered : (c : tie.After-pair) (q : Pair) → c .pair .result ≡ q → let star
 offered c q e =
     let t = c .before .before .before in
     let start = t .before .before .before .before in
-    let used = lane-used (start .args .store .now) (start .args .i) (start .pre .1) (start .pre .2) (t .lane .result) (t .lane .ensures) (in-use t) in
+    let used = source-slot-used (start .args .store .now) (start .args .i) (start .pre .1) (start .pre .2) (t .source-slot .result) (t .source-slot .ensures) (in-use t) in
     ap offerBy (sym e ∙ c .pair .ensures) ∙ ap (offerOf (start .args .r)) (sym used)
 
 returns-2 : tie.Need-returns-2
@@ -69,4 +69,4 @@ returns-3 : tie.Need-returns-3
 returns-3 c = offered (c .before .before .before) _ (c .before .bar .given .1)
 
 pub hear-source-spec : {M : Type 1} → statement M
-hear-source-spec = tie.close (tie.spec marked-requires returns lane-requires send-requires pair-requires enum-known-shares enum-known-bar returns-2 returns-3)
+hear-source-spec = tie.close (tie.spec marked-requires returns source-slot-requires send-requires pair-requires enum-known-shares enum-known-bar returns-2 returns-3)

@@ -8,18 +8,18 @@ use lib.ListN.{getD}
 use Rattle.road.specs.declared.Verdict.{Verdict}
 use Rattle.road.specs.Judge.{receiverVerdict}
 use Rattle.store.specs.declared.Held.{Held}
-use Rattle.store.specs.Account.{soundB}
+use Rattle.store.specs.Account.{sound}
 use Rattle.store.specs.Slots.{slotBy, isTorn}
-use Rattle.store.specs.Store.{allowedB, heldFrom, heldParty}
+use Rattle.store.specs.Store.{isAllowed, heldFrom, heldParty}
 use Rattle.store.proofs.Slots.{torn-unmarked, torn-marked}
 use borrow.Author.Needs.{needs}
 use Rattle.store.proofs.receivers.torn.Statement.{statement}
 use Rattle.store.proofs.receivers.torn.Tie as tie
 
 judged : (v : List ℕ) (h : Held) (w : Verdict) → getD v 0 0 ≡ 1 → h ≡ heldFrom v → receiverVerdict (h .who) ≡ w
-    → not (allowedB w && soundB (h .sums)) ≡ isTorn (slotBy heldParty v)
+    → not (isAllowed w && sound (h .sums)) ≡ isTorn (slotBy heldParty v)
 judged v h w m f g =
-    ap (λ (x : Verdict). not (allowedB x && soundB (h .sums))) (sym g) ∙ ap (λ (x : Held). not (heldParty .ok x)) f ∙ sym (torn-marked heldParty v m)
+    ap (λ (x : Verdict). not (isAllowed x && sound (h .sums))) (sym g) ∙ ap (λ (x : Held). not (heldParty .ok x)) f ∙ sym (torn-marked heldParty v m)
 
 element-copy-out-if1 : tie.Need-element-copy-out-if1
 element-copy-out-if1 c = search needs

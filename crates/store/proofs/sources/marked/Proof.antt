@@ -12,14 +12,14 @@ use Rattle.layout.specs.Layout.{bits, Bytes}
 use Rattle.layout.proofs.Numbers.{bytes-take, bytes-drop}
 use Rattle.layout.proofs.Laws.{field-bits}
 use Rattle.store.specs.Slots.{partyLayout}
-use Rattle.store.specs.Store.{sourceCount, sourceSize, storeLength, sourceParty, sourceAt, laneOf}
+use Rattle.store.specs.Store.{sourceCount, sourceSize, storeLength, sourceParty, sourceAt, sourceSlotOf}
 use borrow.Author.Needs.{needs}
 use Rattle.store.proofs.sources.marked.Statement.{statement}
 use Rattle.store.proofs.sources.marked.Tie as tie
 
 -- the mark is the first eight bits of the slot
-mark-is : (s : List ℕ) (i n : ℕ) → Bytes s → i < sourceCount → length s ≡ storeLength → n ≡ bits 0 8 (sourceAt i s) → eqb n 1 ≡ laneOf (sourceAt i s) .used
-unfolding laneOf storeLength
+mark-is : (s : List ℕ) (i n : ℕ) → Bytes s → i < sourceCount → length s ≡ storeLength → n ≡ bits 0 8 (sourceAt i s) → eqb n 1 ≡ sourceSlotOf (sourceAt i s) .used
+unfolding sourceSlotOf storeLength
 mark-is s i n b h l e =
     let k : length (sourceAt i s) ≡ sourceSize = length-take-le sourceSize (drop (i * sourceSize) s) (omega (arith, length-drop (i * sourceSize) s)) in
     ap (λ (m : ℕ). eqb m 1)

@@ -9,14 +9,14 @@ use lib.ListN.{getD}
 use Rattle.road.specs.declared.Verdict.{Verdict}
 use Rattle.road.specs.Judge.{sourceVerdict}
 use Rattle.store.specs.Slots.{slotBy, isTorn}
-use Rattle.store.specs.Store.{allowedB, sourceParty}
+use Rattle.store.specs.Store.{isAllowed, sourceParty}
 use Rattle.store.proofs.Slots.{torn-unmarked, torn-marked}
 use borrow.Author.Needs.{needs}
 use Rattle.store.proofs.sources.torn.Statement.{statement}
 use Rattle.store.proofs.sources.torn.Tie as tie
 
-judged : (v : List ℕ) (w : Verdict) → getD v 0 0 ≡ 1 → sourceVerdict (sourceParty .from v) ≡ w → not (allowedB w) ≡ isTorn (slotBy sourceParty v)
-judged v w m h = sym (torn-marked sourceParty v m ∙ ap (λ (x : Verdict). not (allowedB x)) h)
+judged : (v : List ℕ) (w : Verdict) → getD v 0 0 ≡ 1 → sourceVerdict (sourceParty .from v) ≡ w → not (isAllowed w) ≡ isTorn (slotBy sourceParty v)
+judged v w m h = sym (torn-marked sourceParty v m ∙ ap (λ (x : Verdict). not (isAllowed x)) h)
 
 element-copy-out-if1 : tie.Need-element-copy-out-if1
 element-copy-out-if1 c = search needs

@@ -1,4 +1,4 @@
--- `lane` gives the slot's mark and fields as they stand.
+-- `source-slot` gives the slot's mark and fields as they stand.
 -- Assumes nothing.
 use mathlib.Core.Path.{ap, _∙_}
 use native.Mathlib.Omega.{arith}
@@ -6,11 +6,11 @@ use denote.Ref.{now}
 use lib.Dec.{eqb}
 use lib.ListN.{getD}
 use Rattle.store.specs.Slots.{partyLayout}
-use Rattle.store.specs.Store.{sourceParty, sourceAt, laneOf, laneBy}
+use Rattle.store.specs.Store.{sourceParty, sourceAt, sourceSlotOf, sourceSlotBy}
 use Rattle.store.proofs.Slots.{fields-fit}
 use borrow.Author.Needs.{needs}
-use Rattle.store.proofs.sources.lane.Statement.{statement}
-use Rattle.store.proofs.sources.lane.Tie as tie
+use Rattle.store.proofs.sources.source_slot.Statement.{statement}
+use Rattle.store.proofs.sources.source_slot.Tie as tie
 
 numbers-requires : tie.Need-numbers-requires
 numbers-requires c κs = search needs
@@ -27,8 +27,8 @@ array-read-used : tie.Need-array-read-used
 array-read-used c = search needs
 
 returns : tie.Need-returns
-unfolding laneOf
-returns c = (λ k. record { used = eqb (getD (c .before .before .numbers .result) 0 0) 1; source = c .source-of .ensures k }) ∙ ap laneBy (c .before .before .numbers .ensures)
+unfolding sourceSlotOf
+returns c = (λ k. record { used = eqb (getD (c .before .before .numbers .result) 0 0) 1; source = c .source-of .ensures k }) ∙ ap sourceSlotBy (c .before .before .numbers .ensures)
 
-pub lane-spec : {M : Type 1} → statement M
-lane-spec = tie.close (tie.spec numbers-requires slice-aggregate-source-of source-of-requires array-read-used returns)
+pub source-slot-spec : {M : Type 1} → statement M
+source-slot-spec = tie.close (tie.spec numbers-requires slice-aggregate-source-of source-of-requires array-read-used returns)
