@@ -1,13 +1,17 @@
 -- `go_round` asks every receiver from the lowest slot on and keeps the seats as they would be. Assumes nothing.
-use mathlib.Core.Path.{sym, ap, _∙_}
+use mathlib.Core.Path.{_≡_, sym, ap, _∙_}
 use Prim.Native.Nat.{_-_, _≤_, _<_}
 use native.Mathlib.Omega.{arith}
+use mathlib.Core.Bool.{true, false}
+use mathlib.Core.Option.{Option, none, some}
+use mathlib.Core.List.{List}
 use borrow.Author.Needs.{needs}
-use lib.ListN.{length}
+use lib.ListN.{getD, length}
+use Rattle.store.specs.declared.Held.{Held}
 use Rattle.store.specs.Store.{receiverCount, bookOf}
 use Rattle.store.proofs.Laws.{undamaged, sound-book}
 use Rattle.ledger.specs.declared.round.Stop.the-variants.{At}
-use Rattle.ledger.specs.Changes.{changeBy}
+use Rattle.ledger.specs.Changes.{Change, changeBy}
 use Rattle.ledger.proofs.Entries.{seat-free, seat-used, seat-stands}
 use Rattle.ledger.proofs.Rounds.{Rounding, round-begun, round-free, round-moved, round-late, round-barred, round-over, round-stopped}
 use Rattle.ledger.proofs.round.go_round.Statement.{statement}
@@ -41,6 +45,23 @@ within t =
 inside : (t : tie.After-seat Inv-loop μ-loop) → t .before .before .loop .j < receiverCount
 inside t = omega (arith, t .before .loop-test .taken)
 
+-- the change that is made, the receivers that it is made to, and what is known of them before the turn
+abbrev begun : tie.After-seat Inv-loop μ-loop → tie.Start Inv-loop μ-loop
+begun t = t .before .before .before .before .before
+
+abbrev made : tie.After-seat Inv-loop μ-loop → Change
+made t = changeBy (begun t .args .adding) (begun t .args .s)
+
+abbrev told : tie.After-seat Inv-loop μ-loop → List (Option Held)
+told t = bookOf (begun t .args .store .now) .receivers
+
+-- who is in the turn's slot
+used : (t : tie.After-seat Inv-loop μ-loop) → t .seat .result .used ≡ true → getD (told t) (t .before .before .loop .j) none ≡ some (t .seat .result .held)
+used t = seat-used (begun t .args .store .now) (t .before .before .loop .j) (begun t .pre .1) (inside t) (t .seat .result) (t .seat .ensures)
+
+free : (t : tie.After-seat Inv-loop μ-loop) → t .seat .result .used ≡ false → getD (told t) (t .before .before .loop .j) none ≡ none
+free t = seat-free (begun t .args .store .now) (t .before .before .loop .j) (begun t .pre .1) (inside t) (t .seat .result) (t .seat .ensures)
+
 meet-requires : tie.Need-meet-requires Inv-loop μ-loop
 meet-requires c κs =
     let t = c .before .before in
@@ -66,13 +87,8 @@ loop-less c = omega arith
 loop-again : tie.Need-loop-again Inv-loop μ-loop
 loop-again c =
     let t = c .before .before .before .before .before .before .before in
-    let lp = t .before .before in
-    let start = lp .before .before .before in
-    let a = start .args in
-    let l = bookOf (a .store .now) .receivers in
-    let s = a .store .now in
-    let used = seat-used s (lp .loop .j) (start .pre .1) (inside t) (t .seat .result) (t .seat .ensures) (c .before .before .before .before .before .if1 .taken) in
-    (omega arith, round-moved (changeBy (a .adding) (a .s)) l (lp .loop .late) (lp .loop .seats) (lp .loop .j) (within t) (inside t) (lp .loop .inv .1) (t .seat .result .held) _ used (sym (c .before .before .before .before .meet .ensures) ∙ c .before .before .sums .given .1))
+    let lp = t .before .before .loop in
+    (omega arith, round-moved (made t) (told t) (lp .late) (lp .seats) (lp .j) (within t) (inside t) (lp .inv .1) (t .seat .result .held) _ (used t (c .before .before .before .before .before .if1 .taken)) (sym (c .before .before .before .before .meet .ensures) ∙ c .before .before .sums .given .1))
 
 enum-told : tie.Need-enum-told Inv-loop μ-loop
 enum-told c = search needs
@@ -86,13 +102,8 @@ loop-less-2 c = omega arith
 loop-again-2 : tie.Need-loop-again-2 Inv-loop μ-loop
 loop-again-2 c =
     let t = c .before .before .before .before .before in
-    let lp = t .before .before in
-    let start = lp .before .before .before in
-    let a = start .args in
-    let l = bookOf (a .store .now) .receivers in
-    let s = a .store .now in
-    let used = seat-used s (lp .loop .j) (start .pre .1) (inside t) (t .seat .result) (t .seat .ensures) (c .before .before .before .if1 .taken) in
-    (omega arith, round-late (changeBy (a .adding) (a .s)) l (lp .loop .late) (lp .loop .seats) (lp .loop .j) (within t) (inside t) (lp .loop .inv .1) (t .seat .result .held) used (sym (c .before .before .meet .ensures) ∙ c .enum-told .given .1))
+    let lp = t .before .before .loop in
+    (omega arith, round-late (made t) (told t) (lp .late) (lp .seats) (lp .j) (within t) (inside t) (lp .inv .1) (t .seat .result .held) (used t (c .before .before .before .if1 .taken)) (sym (c .before .before .meet .ensures) ∙ c .enum-told .given .1))
 
 enum-known-bar : tie.Need-enum-known-bar Inv-loop μ-loop
 enum-known-bar c = search needs
@@ -106,14 +117,9 @@ bar-at-requires c κs = search needs
 returns : tie.Need-returns Inv-loop μ-loop
 returns c =
     let t = c .before .before .before .before .before .before .before in
-    let lp = t .before .before in
-    let start = lp .before .before .before in
-    let a = start .args in
-    let l = bookOf (a .store .now) .receivers in
-    let s = a .store .now in
-    let used = seat-used s (lp .loop .j) (start .pre .1) (inside t) (t .seat .result) (t .seat .ensures) (c .before .before .before .before .before .if1 .taken) in
-    round-stopped (changeBy (a .adding) (a .s)) l _ _ (ap At (c .bar-at .ensures))
-    (round-barred (changeBy (a .adding) (a .s)) l (lp .loop .late) (lp .loop .seats) (lp .loop .j) (within t) (inside t) (lp .loop .inv .1) (t .seat .result .held) _ used (sym (c .before .before .before .before .meet .ensures) ∙ c .before .before .bar .given .1))
+    let lp = t .before .before .loop in
+    round-stopped (made t) (told t) _ _ (ap At (c .bar-at .ensures))
+    (round-barred (made t) (told t) (lp .late) (lp .seats) (lp .j) (within t) (inside t) (lp .inv .1) (t .seat .result .held) _ (used t (c .before .before .before .before .before .if1 .taken)) (sym (c .before .before .before .before .meet .ensures) ∙ c .before .before .bar .given .1))
 
 add-j-3 : tie.Need-add-j-3 Inv-loop μ-loop
 add-j-3 c = omega arith
@@ -124,13 +130,8 @@ loop-less-3 c = omega arith
 loop-again-3 : tie.Need-loop-again-3 Inv-loop μ-loop
 loop-again-3 c =
     let t = c .before .before in
-    let lp = t .before .before in
-    let start = lp .before .before .before in
-    let a = start .args in
-    let l = bookOf (a .store .now) .receivers in
-    let s = a .store .now in
-    let free = seat-free s (lp .loop .j) (start .pre .1) (inside t) (t .seat .result) (t .seat .ensures) (c .if1 .left) in
-    (omega arith, round-free (changeBy (a .adding) (a .s)) l (lp .loop .late) (lp .loop .seats) (lp .loop .j) (within t) (inside t) (lp .loop .inv .1) free)
+    let lp = t .before .before .loop in
+    (omega arith, round-free (made t) (told t) (lp .late) (lp .seats) (lp .j) (within t) (inside t) (lp .inv .1) (free t (c .if1 .left)))
 
 returns-2 : tie.Need-returns-2 Inv-loop μ-loop
 returns-2 c =
