@@ -26,10 +26,10 @@ use Rattle.ledger.specs.Lists.{present}
 use Rattle.undamaged.specs.Calls.{told, placeSource}
 use Rattle.store.proofs.Laws.{many-sources}
 use Rattle.book.specs.History.{standingReceivers, Placing, source, receiver, calls, Rebuilds, Call, PlaceSource, WithdrawSource, PlaceReceiver}
-use Rattle.book.specs.History.{Ask, storeAfter, bookAfter, answerTo, Real, accepted, kept, lastAt, row, standingSource, standingReceiver}
+use Rattle.book.specs.History.{Ask, storeAfter, bookAfter, answerTo, Real, accepted, kept, lastAt, inSlots, standingSource, standingReceiver}
 use Rattle.book.specs.History.{standingSources, levelsOf, Hears, Rule}
 use Rattle.undamaged.proofs.Answered.{by-taken}
-use Rattle.book.proofs.Slots.{row-at}
+use Rattle.book.proofs.Slots.{in-slots-at}
 use Rattle.book.proofs.Gates.{slot-passes}
 use Rattle.book.proofs.Laws.{StoreLaws, store-laws}
 use Rattle.book.proofs.History.{sourceAfter, seatAfter, on-store, accepts-by-rule, holds-what-stands}
@@ -91,28 +91,28 @@ module _ (laws : StoreLaws) where
   refuses h k real q i s t low ok e =
       let H = holds-what-stands laws h real in
       let there : getD (bookAfter h .sources) i none ≡ some t =
-      ap (λ l. getD l i none) (H .sources) ∙ row-at sourceSlots (standingSource h) none i low ∙ ap (λ l. sourceAfter l i) q ∙ e in
+      ap (λ l. getD l i none) (H .sources) ∙ in-slots-at sourceSlots (standingSource h) none i low ∙ ap (λ l. sourceAfter l i) q ∙ e in
       let may : slotVerdict lastSource i (sourceVerdict s) ≡ Allowed = slot-passes lastSource i (sourceVerdict s) (omega (arith, many-sources), ok) in
       ap (λ (o : Answer × List ℕ). o .0)
       (on-store (placeSource i s) (storeAfter h) (bookAfter h) (H .undamaged) refl ∙ ap (told (storeAfter h)) (by-taken _ _ _ t may there))
 
   -- what an ask is told
   tells : (h k : List Call) → Real h → kept h ≡ k → seatAfter k 5 ≡ some home
-      → answerTo h (Ask 5) ≡ levelsOf (present (row sourceSlots (sourceAfter k))) home
+      → answerTo h (Ask 5) ≡ levelsOf (present (inSlots sourceSlots (sourceAfter k))) home
   unfolding standingReceiver standingSources standingSource receiverSlots
   tells h k real q e =
       holds-what-stands laws h real .levels 5 home (omega arith) (ap (λ l. seatAfter l 5) q ∙ e)
-      ∙ ap (λ l. levelsOf (present (row sourceSlots (sourceAfter l))) home) q
+      ∙ ap (λ l. levelsOf (present (inSlots sourceSlots (sourceAfter l))) home) q
 
   placed-kept : kept placed ≡ placed
-  unfolding kept lastAt row sourceSlots receiverSlots
+  unfolding kept lastAt inSlots sourceSlots receiverSlots
   placed-kept =
       by-rule (PlaceReceiver 5 home ∷ []) (PlaceReceiver 5 home ∷ []) (tt, tt)
       (by-rule [] [] tt refl (PlaceReceiver 5 home) (omega arith, home-allowed, refl, tt))
       (PlaceSource 0 near) (omega arith, near-allowed, refl, (heard, tt))
 
   pub asked : answerTo placed (Ask 5) ≡ Levels (Tenths 616) (Tenths 503)
-  unfolding lastAt row sourceSlots
+  unfolding lastAt inSlots sourceSlots
   asked = tells placed placed (refl, (tt, tt)) placed-kept refl ∙ near-levels
 
   asked-kept : kept (Ask 5 ∷ placed) ≡ Ask 5 ∷ placed
@@ -132,7 +132,7 @@ module _ (laws : StoreLaws) where
       (WithdrawSource 0) (omega arith, refl)
 
   pub asked-again : answerTo withdrawn (Ask 5) ≡ Levels Quiet Quiet
-  unfolding lastAt row sourceSlots
+  unfolding lastAt inSlots sourceSlots
   asked-again = tells withdrawn (WithdrawSource 0 ∷ Ask 5 ∷ placed) (tt, (refl, (tt, (refl, (tt, tt))))) withdrawn-kept refl ∙ silence
 
   -- ---- the same two into other slots, and the source first
@@ -142,10 +142,10 @@ module _ (laws : StoreLaws) where
   placed-seat = ap (λ l. seatAfter l 5) placed-kept
 
   elsewhere-rebuilds : Rebuilds placed elsewhere
-  unfolding standingSources standingSource standingReceivers standingReceiver lastAt row sourceSlots receiverSlots
+  unfolding standingSources standingSource standingReceivers standingReceiver lastAt inSlots sourceSlots receiverSlots
   elsewhere-rebuilds =
-      let s : standingSources placed ≡ near ∷ [] = ap (λ l. present (row sourceSlots (sourceAfter l))) placed-kept in
-      let r : standingReceivers placed ≡ home ∷ [] = ap (λ l. present (row receiverSlots (seatAfter l))) placed-kept in
+      let s : standingSources placed ≡ near ∷ [] = ap (λ l. present (inSlots sourceSlots (sourceAfter l))) placed-kept in
+      let r : standingReceivers placed ≡ home ∷ [] = ap (λ l. present (inSlots receiverSlots (seatAfter l))) placed-kept in
       record {
         same-sources = subst (List·Permᴰ (near ∷ [])) (sym s) (Permᴰ·refl (near ∷ []));
         same-receivers = subst (List·Permᴰ (home ∷ [])) (sym r) (Permᴰ·refl (home ∷ []));

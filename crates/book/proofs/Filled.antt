@@ -27,9 +27,9 @@ use Rattle.undamaged.specs.Calls.{placeSource, withdrawSource, placeReceiver, w
 use Rattle.road.proofs.Judged.{source-by, receiver-by}
 use Rattle.undamaged.proofs.Sums.{HearsAll, all-map, and-both, bars-pass, never, weigh-sound}
 use Rattle.book.specs.History.{Call, PlaceSource, WithdrawSource, PlaceReceiver, WithdrawReceiver, Ask, RealCall, accepted, sourceMove}
-use Rattle.book.specs.History.{receiverMove, row, levelsOf, Hears, Rule}
+use Rattle.book.specs.History.{receiverMove, inSlots, levelsOf, Hears, Rule}
 use Rattle.book.proofs.Slots.{all-both, all-set, all-at, every-all, every-omap, omap-set, omap-twice, omap-unused}
-use Rattle.book.proofs.Slots.{used-omap, perm-put, perm-take, row-length, row-at, moved}
+use Rattle.book.proofs.Slots.{used-omap, perm-put, perm-take, in-slots-length, in-slots-at, moved}
 use Rattle.book.proofs.Accounts.{more-is, less-is, covers-is, weigh-perm}
 use Rattle.book.proofs.Gates.{Fine, past-free, past-used, past-bars, past-late, bars-none, bars-apart, bars-omap}
 use Rattle.book.proofs.Gates.{slot-passes, past-fields}
@@ -81,10 +81,10 @@ standing-sound S R p = record {
 
 module _ (source-slot : ℕ → Option Source) (seat : ℕ → Option Receiver) where
   abbrev S : List (Option Source)
-  S = row sourceSlots source-slot
+  S = inSlots sourceSlots source-slot
 
   abbrev R : List (Option Receiver)
-  R = row receiverSlots seat
+  R = inSlots receiverSlots seat
 
   abbrev afresh : Receiver → Held
   afresh = weigh pairOf (present S)
@@ -101,10 +101,10 @@ module _ (source-slot : ℕ → Option Source) (seat : ℕ → Option Receiver) 
   -- ---- who is in a slot
 
   source-slot-is : (i : ℕ) → i ≤ lastSource → getD S i none ≡ source-slot i
-  source-slot-is i h = row-at sourceSlots source-slot none i (omega (arith, many-sources))
+  source-slot-is i h = in-slots-at sourceSlots source-slot none i (omega (arith, many-sources))
 
   seat-is : (j : ℕ) → j ≤ lastReceiver → getD (fill S R .receivers) j none ≡ omap afresh (seat j)
-  seat-is j h = fill-at S R j ∙ ap (omap afresh) (row-at receiverSlots seat none j (omega (arith, many-receivers)))
+  seat-is j h = fill-at S R j ∙ ap (omap afresh) (in-slots-at receiverSlots seat none j (omega (arith, many-receivers)))
 
   -- ---- a source comes
 
@@ -120,7 +120,7 @@ module _ (source-slot : ℕ → Option Source) (seat : ℕ → Option Receiver) 
         fits : (r : Receiver) → coming pairOf s .fits (afresh r) ≡ true
         fits r =
             ap (λ (x : Held). sound (x .sums)) (entered r)
-            ∙ weigh-sound pairOf pair-bounded (set S i (some s)) r (length-set S i (some s) ∙ row-length sourceSlots source-slot)
+            ∙ weigh-sound pairOf pair-bounded (set S i (some s)) r (length-set S i (some s) ∙ in-slots-length sourceSlots source-slot)
 
   pub place-source : (i : ℕ) (s : Source) → Standing S R → Leads (PlaceSource i s) (placeSource i s (fill S R))
   unfolding placeSource

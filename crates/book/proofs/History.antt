@@ -26,7 +26,7 @@ use Rattle.undamaged.specs.Calls.{numberIn, Step, refuse, tell, change, told, o
 use Rattle.undamaged.specs.Calls.{placeReceiver, withdrawReceiver, askReceiver}
 use Rattle.undamaged.proofs.Sums.{HearsAll, never}
 use Rattle.book.specs.History.{Call, Clear, PlaceSource, WithdrawSource, PlaceReceiver, WithdrawReceiver, Ask, perform, storeAfter, RealCall, answerTo}
-use Rattle.book.specs.History.{Real, accepted, kept, sourceMove, receiverMove, allLeave, lastAt, row, standingSource, standingReceiver}
+use Rattle.book.specs.History.{Real, accepted, kept, sourceMove, receiverMove, allLeave, lastAt, inSlots, standingSource, standingReceiver}
 use Rattle.book.specs.History.{standingSources, standingReceivers, SumsOf, HoldsWhatStands, NeverLate, Rule, AcceptsByRule}
 use Rattle.book.proofs.Slots.{all-none, omap-none, slots-moved, slots-none}
 use Rattle.book.proofs.Filled.{fill, ReceiverStands, Standing, fill-at, standing-sound, Next, Leads, place-source, withdraw-source}
@@ -89,10 +89,10 @@ abbrev pub seatAfter : List Call → ℕ → Option Receiver
 seatAfter k = lastAt (map receiverMove k)
 
 abbrev pub sourcesAfter : List Call → List (Option Source)
-sourcesAfter k = row sourceSlots (sourceAfter k)
+sourcesAfter k = inSlots sourceSlots (sourceAfter k)
 
 abbrev pub receiversAfter : List Call → List (Option Receiver)
-receiversAfter k = row receiverSlots (seatAfter k)
+receiversAfter k = inSlots receiverSlots (seatAfter k)
 
 pub record Holds (b : List ℕ) (k : List Call) : Type 0 where
   pub sound : damaged b ≡ false

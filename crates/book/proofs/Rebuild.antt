@@ -14,10 +14,10 @@ use Rattle.undamaged.specs.declared.Answer.the-variants.{Levels}
 use Rattle.road.specs.Reach.{pairOf}
 use Rattle.ledger.specs.Lists.{present, weigh, All}
 use Rattle.undamaged.proofs.Sums.{HearsAll, all-map}
-use Rattle.book.specs.History.{Call, answerTo, Real, accepted, kept, sourceMove, receiverMove, lastAt, row, standingSource}
+use Rattle.book.specs.History.{Call, answerTo, Real, accepted, kept, sourceMove, receiverMove, lastAt, inSlots, standingSource}
 use Rattle.book.specs.History.{standingReceiver, standingSources, standingReceivers, levelsOf, SumsOf, Hears, Put, Placing, source, receiver}
 use Rattle.book.specs.History.{asCall, calls, sourcesIn, receiversIn, entriesOf, Apart, Rebuilds, AllAccepted, Rebuilt, inPlace, anew}
-use Rattle.book.proofs.Slots.{all-perm, row-length, entering, entering-free, entering-perm, entering-at, in-place-entries}
+use Rattle.book.proofs.Slots.{all-perm, in-slots-length, entering, entering-free, entering-perm, entering-at, in-place-entries}
 use Rattle.book.proofs.Slots.{in-place-apart}
 use Rattle.book.proofs.Accounts.{weigh-perm}
 use Rattle.book.proofs.Filled.{ReceiverStands}
@@ -176,13 +176,13 @@ receivers-last (x ∷ xs) ys = receivers-last xs ys
 pub anew-rebuilds : (h : List Call) → Rebuilds h (anew h)
 unfolding anew standingSources standingReceivers
 anew-rebuilds h =
-    let S = row sourceSlots (standingSource h) in
-    let R = row receiverSlots (standingReceiver h) in
+    let S = inSlots sourceSlots (standingSource h) in
+    let R = inSlots receiverSlots (standingReceiver h) in
     let s : sourcesIn (anew h) ≡ inPlace 0 S = sources-first (inPlace 0 S) (inPlace 0 R) in
     let r : receiversIn (anew h) ≡ inPlace 0 R = receivers-last (inPlace 0 S) (inPlace 0 R) in
     record {
       same-sources = rw (s, in-place-entries 0 S) (Permᴰ·refl (present S));
       same-receivers = rw (r, in-place-entries 0 R) (Permᴰ·refl (present R));
-      source-slots = rw s (in-place-apart sourceSlots 0 S (omega (arith, row-length sourceSlots (standingSource h))));
-      receiver-slots = rw r (in-place-apart receiverSlots 0 R (omega (arith, row-length receiverSlots (standingReceiver h))));
+      source-slots = rw s (in-place-apart sourceSlots 0 S (omega (arith, in-slots-length sourceSlots (standingSource h))));
+      receiver-slots = rw r (in-place-apart receiverSlots 0 R (omega (arith, in-slots-length receiverSlots (standingReceiver h))));
     }

@@ -16,7 +16,7 @@ use borrow.Author.Tests.{eqb-true, eqb-false, eq-eqb, ne-eqb}
 use Rattle.ledger.specs.Lists.{omap, present, every, sumOf, All}
 use Rattle.undamaged.specs.Calls.{used}
 use Rattle.undamaged.proofs.Sums.{and-both, never}
-use Rattle.book.specs.History.{Move, enter, leave, allLeave, still, lastAt, row, Put, entriesOf, Apart, inPlace}
+use Rattle.book.specs.History.{Move, enter, leave, allLeave, still, lastAt, inSlots, Put, entriesOf, Apart, inPlace}
 
 -- ---- what holds of each
 
@@ -113,22 +113,22 @@ module _ {A : Type 0} where
 -- ---- rows, and what moves make of them
 
 module _ {A : Type 0} where
-  pub row-length : (n : ℕ) (f : ℕ → A) → length (row n f) ≡ n
-  unfolding row
-  row-length zero f = refl
-  row-length (suc n) f = ap suc (row-length n (λ k. f (suc k)))
+  pub in-slots-length : (n : ℕ) (f : ℕ → A) → length (inSlots n f) ≡ n
+  unfolding inSlots
+  in-slots-length zero f = refl
+  in-slots-length (suc n) f = ap suc (in-slots-length n (λ k. f (suc k)))
 
-  pub row-at : (n : ℕ) (f : ℕ → A) (d : A) (i : ℕ) → i < n → getD (row n f) i d ≡ f i
-  unfolding row
-  row-at zero f d i h = absurd (not-suc-le-zero h)
-  row-at (suc n) f d zero h = refl
-  row-at (suc n) f d (suc i) h = row-at n (λ k. f (suc k)) d i (le-of-suc-le-suc h)
+  pub in-slots-at : (n : ℕ) (f : ℕ → A) (d : A) (i : ℕ) → i < n → getD (inSlots n f) i d ≡ f i
+  unfolding inSlots
+  in-slots-at zero f d i h = absurd (not-suc-le-zero h)
+  in-slots-at (suc n) f d zero h = refl
+  in-slots-at (suc n) f d (suc i) h = in-slots-at n (λ k. f (suc k)) d i (le-of-suc-le-suc h)
 
 module _ {A : Type 0} where
-  row-is : (n : ℕ) (f : ℕ → A) (d : A) (l : List A) → length l ≡ n → ((i : ℕ) → i < n → getD l i d ≡ f i) → l ≡ row n f
-  row-is n f d l e at =
-      ext-getD d l (row n f) (e ∙ sym (row-length n f))
-      (λ i h. let q : i < n = omega arith in at i q ∙ sym (row-at n f d i q))
+  in-slots-is : (n : ℕ) (f : ℕ → A) (d : A) (l : List A) → length l ≡ n → ((i : ℕ) → i < n → getD l i d ≡ f i) → l ≡ inSlots n f
+  in-slots-is n f d l e at =
+      ext-getD d l (inSlots n f) (e ∙ sym (in-slots-length n f))
+      (λ i h. let q : i < n = omega arith in at i q ∙ sym (in-slots-at n f d i q))
 
 module _ {A : Type 0} where
   -- n slots after a move
@@ -146,7 +146,7 @@ module _ {A : Type 0} where
 
   -- the slots that moves leave
   abbrev slotsAfter : ℕ → List (Move A) → List (Option A)
-  slotsAfter n l = row n (lastAt l)
+  slotsAfter n l = inSlots n (lastAt l)
 
   set-at : (l : List (Option A)) (k i : ℕ) (o p : Option A) → i < length l → getD l i none ≡ p → getD (set l k o) i none ≡ cond (eqb i k) o p
   set-at l k i o p h e = go (eqb i k) refl
@@ -157,17 +157,17 @@ module _ {A : Type 0} where
 
   pub slots-moved : (n : ℕ) (m : Move A) (l : List (Move A)) → moved n m (slotsAfter n l) ≡ slotsAfter n (m ∷ l)
   unfolding lastAt
-  slots-moved n m l = row-is n (lastAt (m ∷ l)) none (moved n m (slotsAfter n l)) (moved-length n m (slotsAfter n l) (row-length n (lastAt l))) (go m)
+  slots-moved n m l = in-slots-is n (lastAt (m ∷ l)) none (moved n m (slotsAfter n l)) (moved-length n m (slotsAfter n l) (in-slots-length n (lastAt l))) (go m)
     where
       go : (m : Move A) (i : ℕ) → i < n → getD (moved n m (slotsAfter n l)) i none ≡ lastAt (m ∷ l) i
-      go (enter k a) i h = set-at (slotsAfter n l) k i (some a) (lastAt l i) (omega (arith, row-length n (lastAt l))) (row-at n (lastAt l) none i h)
-      go (leave k) i h = set-at (slotsAfter n l) k i none (lastAt l i) (omega (arith, row-length n (lastAt l))) (row-at n (lastAt l) none i h)
+      go (enter k a) i h = set-at (slotsAfter n l) k i (some a) (lastAt l i) (omega (arith, in-slots-length n (lastAt l))) (in-slots-at n (lastAt l) none i h)
+      go (leave k) i h = set-at (slotsAfter n l) k i none (lastAt l i) (omega (arith, in-slots-length n (lastAt l))) (in-slots-at n (lastAt l) none i h)
       go allLeave i h = getD-replicate n i none none h
-      go still i h = row-at n (lastAt l) none i h
+      go still i h = in-slots-at n (lastAt l) none i h
 
   pub slots-none : (n : ℕ) → replicate {A = Option A} n none ≡ slotsAfter n []
   unfolding lastAt
-  slots-none n = row-is n (lastAt []) none (replicate n none) (length-replicate n none) (λ i h. getD-replicate n i none none h)
+  slots-none n = in-slots-is n (lastAt []) none (replicate n none) (length-replicate n none) (λ i h. getD-replicate n i none none h)
 
   -- ---- placings into slots apart
 
@@ -188,10 +188,10 @@ module _ {A : Type 0} where
       none-present (suc n) = none-present n
   entering-perm n (x ∷ l) p =
       let S : List (Option A) = slotsAfter n (entering l) in
-      let free : getD S (x .slot) none ≡ none = row-at n (lastAt (entering l)) none (x .slot) (p .0) ∙ entering-free (x .slot) l (p .1) in
+      let free : getD S (x .slot) none ≡ none = in-slots-at n (lastAt (entering l)) none (x .slot) (p .0) ∙ entering-free (x .slot) l (p .1) in
       rw (← slots-moved n (enter (x .slot) (x .entry)) (entering l))
       (List·Permᴰ·trans
-      (perm-put S (x .slot) (x .entry) (omega (arith, p .0, row-length n (lastAt (entering l)))) free)
+      (perm-put S (x .slot) (x .entry) (omega (arith, p .0, in-slots-length n (lastAt (entering l)))) free)
       (List·Permᴰ·cons refl (entering-perm n l (p .2))))
 
   -- each is found where it was placed

@@ -115,9 +115,9 @@ module _ {A : Type 0} where
   lastAt (still ∷ l) i = lastAt l i
 
   -- f 0, f 1, .. up to f (n - 1)
-  unfoldable pub row : ℕ → (ℕ → A) → List A
-  row zero f = []
-  row (suc n) f = f zero ∷ row n (λ k. f (suc k))
+  unfoldable pub inSlots : ℕ → (ℕ → A) → List A
+  inSlots zero f = []
+  inSlots (suc n) f = f zero ∷ inSlots n (λ k. f (suc k))
 
 -- who stands in a slot
 unfoldable pub standingSource : List Call → ℕ → Option Source
@@ -128,10 +128,10 @@ standingReceiver h j = lastAt (map receiverMove (kept h)) j
 
 -- and in all of them, from the lowest slot on
 unfoldable pub standingSources : List Call → List Source
-standingSources h = present (row sourceSlots (standingSource h))
+standingSources h = present (inSlots sourceSlots (standingSource h))
 
 unfoldable pub standingReceivers : List Call → List Receiver
-standingReceivers h = present (row receiverSlots (standingReceiver h))
+standingReceivers h = present (inSlots receiverSlots (standingReceiver h))
 
 -- the energy that a receiver gets from sources in one period: 0 day, 1 evening, 2 night
 abbrev pub total : List Source → Receiver → ℕ → ℕ
@@ -151,8 +151,8 @@ levelsOf ss r = Levels (ldenOf (total ss r 0) (total ss r 1) (total ss r 2)) (ln
 pub record HoldsWhatStands (h : List Call) : Type 0 where
   pub undamaged : damaged (storeAfter h) ≡ false
   -- slot by slot
-  pub sources : bookAfter h .sources ≡ row sourceSlots (standingSource h)
-  pub receivers : map (omap (λ x. x .who)) (bookAfter h .receivers) ≡ row receiverSlots (standingReceiver h)
+  pub sources : bookAfter h .sources ≡ inSlots sourceSlots (standingSource h)
+  pub receivers : map (omap (λ x. x .who)) (bookAfter h .receivers) ≡ inSlots receiverSlots (standingReceiver h)
   pub sums : (j : ℕ) (x : Held) → getD (bookAfter h .receivers) j none ≡ some x → SumsOf (standingSources h) x
   pub levels : (j : ℕ) (r : Receiver) → j < receiverSlots → standingReceiver h j ≡ some r → answerTo h (Ask j) ≡ levelsOf (standingSources h) r
 
@@ -171,10 +171,10 @@ Hears s r = isHeard (pairOf s r) ≡ true
 abbrev pub Rule : (ℕ → Option Source) → (ℕ → Option Receiver) → Call → Type 0
 Rule source-slot seat Clear = Unit {0}
 Rule source-slot seat (PlaceSource i s) =
-    (i < sourceSlots) × (sourceVerdict s ≡ Allowed) × (source-slot i ≡ none) × All (λ r. Hears s r) (present (row receiverSlots seat))
+    (i < sourceSlots) × (sourceVerdict s ≡ Allowed) × (source-slot i ≡ none) × All (λ r. Hears s r) (present (inSlots receiverSlots seat))
 Rule source-slot seat (WithdrawSource i) = (i < sourceSlots) × (used (source-slot i) ≡ true)
 Rule source-slot seat (PlaceReceiver j r) =
-    (j < receiverSlots) × (receiverVerdict r ≡ Allowed) × (seat j ≡ none) × All (λ s. Hears s r) (present (row sourceSlots source-slot))
+    (j < receiverSlots) × (receiverVerdict r ≡ Allowed) × (seat j ≡ none) × All (λ s. Hears s r) (present (inSlots sourceSlots source-slot))
 Rule source-slot seat (WithdrawReceiver j) = (j < receiverSlots) × (used (seat j) ≡ true)
 Rule source-slot seat (Ask j) = (j < receiverSlots) × (used (seat j) ≡ true)
 
@@ -248,8 +248,8 @@ module _ {A : Type 0} where
 
 unfoldable pub anew : List Call → List Placing
 anew h =
-    map source (inPlace 0 (row sourceSlots (standingSource h)))
-    ++ map receiver (inPlace 0 (row receiverSlots (standingReceiver h)))
+    map source (inPlace 0 (inSlots sourceSlots (standingSource h)))
+    ++ map receiver (inPlace 0 (inSlots receiverSlots (standingReceiver h)))
 
 -- ---- what numbers the book may answer: done 0, damage 1, and 5 to 13
 

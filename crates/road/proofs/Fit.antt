@@ -21,7 +21,7 @@ use Rattle.road.specs.Term.{period}
 use Rattle.road.specs.Emission.{carSpeed, truckSpeed, carLevel, truckLevel}
 use Rattle.road.specs.Limits.{coordinate, longest, lastSurface, lastReflection, mostVehicles, allTrucks, lowestReceiver, highestReceiver}
 use Rattle.road.specs.Emission.{sign}
-use Rattle.road.specs.Fields.{Row, sourceTable, receiverTable, valuesBy, leastBy, mostBy, bitsBy, slotBitsBy, numberBy}
+use Rattle.road.specs.Fields.{Row, sourceTable, receiverTable, valuesBy, leastBy, mostBy, bitsBy, slotBitsBy, numberAt}
 use Rattle.road.proofs.Rows.{wider}
 use Rattle.road.specs.Judge.{outsideBy, unlessOutside, slowSurface, quietTruck, sourceVerdict, receiverVerdict}
 
@@ -32,7 +32,7 @@ passed false r v e = (refl, e)
 
 module _ {A : Type 0} (t : List (Row A)) (a : A) (v : Verdict) (e : unlessOutside t a v ≡ Allowed) where
   past : (ltb (outsideBy t a) (length t) ≡ false) × (v ≡ Allowed)
-  past = passed (ltb (outsideBy t a) (length t)) (Field (numberBy t (outsideBy t a))) v e
+  past = passed (ltb (outsideBy t a) (length t)) (Field (numberAt t (outsideBy t a))) v e
 
   -- each field has its bounds
   bounded : (i : ℕ) → i < length t → (getD (leastBy t a) i 0 ≤ getD (valuesBy t a) i 0) × (getD (valuesBy t a) i 0 ≤ getD (mostBy t a) i 0)

@@ -15,16 +15,16 @@ use Rattle.road.specs.declared.Source.{Source}
 use Rattle.road.specs.declared.Receiver.{Receiver}
 use Rattle.road.specs.declared.Verdict.{Verdict}
 use Rattle.road.specs.declared.Verdict.the-variants.{Allowed, Refused}
-use Rattle.road.specs.Fields.{Row, numberBy, sourceTable, receiverTable}
+use Rattle.road.specs.Fields.{Row, numberAt, sourceTable, receiverTable}
 use Rattle.road.specs.Judge.{outsideBy, unlessOutside, slowSurface, quietTruck, sourceVerdict, receiverVerdict, slotVerdict}
 
 -- ---- the first field outside its limits is refused, and none leaves the rest to be judged
 
 module _ {A : Type 0} (t : List (Row A)) (a : A) (v : Verdict) (at : ℕ) (e : at ≡ outsideBy t a) where
-  pub outside : at < length t → Refused (Field (numberBy t at)) ≡ unlessOutside t a v
+  pub outside : at < length t → Refused (Field (numberAt t at)) ≡ unlessOutside t a v
   outside h =
       let k : outsideBy t a < length t = omega arith in
-      rw (lt-ltb (outsideBy t a) (length t) k) (ap (λ (x : ℕ). Refused (Field (numberBy t x))) e)
+      rw (lt-ltb (outsideBy t a) (length t) k) (ap (λ (x : ℕ). Refused (Field (numberAt t x))) e)
 
   pub inside : length t ≤ at → v ≡ unlessOutside t a v
   inside h =
@@ -51,7 +51,7 @@ either-by true v w m n = m
 either-by false v w m n = n
 
 outside-by : {A : Type 0} (t : List (Row A)) (a : A) (v : Verdict) → ByFields v → ByFields (unlessOutside t a v)
-outside-by t a v n = either-by (ltb (outsideBy t a) (length t)) (Refused (Field (numberBy t (outsideBy t a)))) v (omega arith, omega arith) n
+outside-by t a v n = either-by (ltb (outsideBy t a) (length t)) (Refused (Field (numberAt t (outsideBy t a)))) v (omega arith, omega arith) n
 
 pub source-by : (s : Source) → ByFields (sourceVerdict s)
 unfolding sourceVerdict

@@ -15,7 +15,7 @@ use Rattle.layout.specs.Layout.{Within}
 use Rattle.layout.proofs.Bounds.{both}
 use Rattle.road.specs.declared.Source.{Source}
 use Rattle.road.specs.declared.Receiver.{Receiver}
-use Rattle.road.specs.Fields.{Row, sourceTable, receiverTable, sourceOf, receiverOf, valuesBy, bitsBy, slotBitsBy, numberBy, rowsBy, Fit}
+use Rattle.road.specs.Fields.{Row, sourceTable, receiverTable, sourceOf, receiverOf, valuesBy, bitsBy, slotBitsBy, numberAt, rowsBy, Fit}
 use Rattle.road.proofs.Periods.{periods-again}
 
 -- ---- values and what has them
@@ -52,18 +52,18 @@ module _ {A : Type 0} where
   small [] = true
   small (r ∷ t) = ltb (r .number) 65536 && small t
 
-  number-small : (t : List (Row A)) (i : ℕ) → small t ≡ true → numberBy t i < 65536
+  number-small : (t : List (Row A)) (i : ℕ) → small t ≡ true → numberAt t i < 65536
   number-small [] i h = omega arith
   number-small (r ∷ t) zero h = ltb-true (r .number) 65536 (both (ltb (r .number) 65536) (small t) h .0)
   number-small (r ∷ t) (suc i) h = number-small t i (both (ltb (r .number) 65536) (small t) h .1)
 
-  first-column : (t : List (Row A)) (a : A) (i : ℕ) → getD (getD (rowsBy t a) i []) 0 0 ≡ numberBy t i
+  first-column : (t : List (Row A)) (a : A) (i : ℕ) → getD (getD (rowsBy t a) i []) 0 0 ≡ numberAt t i
   first-column [] a i = refl
   first-column (r ∷ t) a zero = refl
   first-column (r ∷ t) a (suc i) = first-column t a i
 
   module _ (t : List (Row A)) (a : A) (i : ℕ) {rows : List (List ℕ)} (e : rows ≡ rowsBy t a) where
-    pub number-row : getD (getD rows i []) 0 0 ≡ numberBy t i
+    pub number-row : getD (getD rows i []) 0 0 ≡ numberAt t i
     number-row = ap (λ (l : List (List ℕ)). getD (getD l i []) 0 0) e ∙ first-column t a i
 
     pub number-fits : small t ≡ true → getD (getD rows i []) 0 0 < 65536

@@ -121,8 +121,8 @@ module _ {A : Type 0} where
   slotBitsBy t = map (λ (r : Row A). 8 * r .bytes) t
 
   -- the number of row i
-  abbrev pub numberBy : List (Row A) → ℕ → ℕ
-  numberBy t i = getD (map (λ (r : Row A). r .number) t) i 0
+  abbrev pub numberAt : List (Row A) → ℕ → ℕ
+  numberAt t i = getD (map (λ (r : Row A). r .number) t) i 0
 
   -- ---- the table as the code has it, with the limits of a: number, bits, bytes, least, most
 

@@ -13,7 +13,7 @@ use Rattle.road.specs.declared.Receiver.{Receiver}
 use Rattle.road.specs.declared.Verdict.{Verdict}
 use Rattle.road.specs.declared.Verdict.the-variants.{Allowed, Refused}
 use Rattle.road.specs.Emission.{carSpeed, truckSpeed, carLevel, truckLevel}
-use Rattle.road.specs.Fields.{Row, valuesBy, leastBy, mostBy, numberBy, sourceTable, receiverTable}
+use Rattle.road.specs.Fields.{Row, valuesBy, leastBy, mostBy, numberAt, sourceTable, receiverTable}
 
 -- the fields in order, from field 2 on
 abbrev pub sourceFields : Source → List ℕ
@@ -31,7 +31,7 @@ module _ {A : Type 0} where
   outsideBy t a = firstOutside (leastBy t a) (mostBy t a) (valuesBy t a)
 
   abbrev pub unlessOutside : List (Row A) → A → Verdict → Verdict
-  unlessOutside t a v = cond (ltb (outsideBy t a) (length t)) (Refused (Field (numberBy t (outsideBy t a)))) v
+  unlessOutside t a v = cond (ltb (outsideBy t a) (length t)) (Refused (Field (numberAt t (outsideBy t a)))) v
 
 -- the surfaces 5 to 9 are for more than 60 km/h
 abbrev pub slowSurface : Source → Bool

@@ -9,7 +9,7 @@ use answer::Refusal;
 ghost use mathlib.Core.Path.{_≡_};
 ghost use Prim.Native.Nat.{_<_};
 ghost use Rattle.level.specs.Table.{table};
-ghost use Rattle.road.specs.Fields.{sourceTable, receiverTable, numberBy};
+ghost use Rattle.road.specs.Fields.{sourceTable, receiverTable, numberAt};
 ghost use Rattle.road.specs.Judge.{sourceVerdict, receiverVerdict, slotVerdict, quietTruck};
 
 // Whether the trucks are quieter than the cars.
@@ -25,7 +25,7 @@ fn quiet_truck(steps: &[u32; 1000], s: Source) -> bool
 // The number of the field in row i of a source.
 fn source_number(i: usize) -> u16
     requires { ⌜ i < 18 ⌝ }
-    ensures { λ r. ⌜ r ≡ numberBy sourceTable i ⌝ }
+    ensures { λ r. ⌜ r ≡ numberAt sourceTable i ⌝ }
 {
     let rows = fields::source_rows();
     let row = rows[i];
@@ -35,7 +35,7 @@ fn source_number(i: usize) -> u16
 // And of a receiver.
 fn receiver_number(i: usize) -> u16
     requires { ⌜ i < 3 ⌝ }
-    ensures { λ r. ⌜ r ≡ numberBy receiverTable i ⌝ }
+    ensures { λ r. ⌜ r ≡ numberAt receiverTable i ⌝ }
 {
     let rows = fields::receiver_rows();
     let row = rows[i];

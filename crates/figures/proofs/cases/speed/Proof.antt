@@ -6,6 +6,7 @@ use native.Mathlib.Omega.{arith}
 use Rattle.level.specs.Table.{table}
 use Rattle.road.specs.declared.Source.{Source}
 use Rattle.road.specs.declared.emission.Pace.{Pace}
+use Rattle.road.specs.Limits.{allTrucks}
 use Rattle.road.specs.Inner.{paceOf}
 use Rattle.road.proofs.Sums.{Paced, paced}
 use borrow.Author.Needs.{needs}
@@ -34,8 +35,8 @@ pace-of-requires c κs = (c .before .before .before .before .before .pre, sym (c
 small : (s : Source) (p : Pace) → p ≡ paceOf s → Paced p
 small s p e = rw e (paced s)
 
-ready : (c : tie.After-pace-of) (p : ℕ) → p ≤ 1000
-    → (c .before .before .before .before .before .before .args .steps .now ≡ table) × (c .pace-of .result .car ≤ 20000) × (c .pace-of .result .gain < 1000000000) × (p ≤ 1000)
+ready : (c : tie.After-pace-of) (p : ℕ) → p ≤ allTrucks
+    → (c .before .before .before .before .before .before .args .steps .now ≡ table) × (c .pace-of .result .car ≤ 20000) × (c .pace-of .result .gain < 1000000000) × (p ≤ allTrucks)
 ready c p h =
     let k = small (c .before .before .before .before .street .result) (c .pace-of .result) (c .pace-of .ensures) in
     (c .before .before .before .before .before .before .pre, k .car, k .gain, h)
