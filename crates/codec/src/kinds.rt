@@ -66,14 +66,35 @@ const WIDTHS: [u8; 35] = [
     6,
 ];
 
-// Where the widths of a kind start among them. Here and below the first row is for no kind.
-const START: [usize; 6] = [0, 0, 6, 9, 29, 32];
+// How many widths a kind has. Here and below the first row is for no kind.
+const COUNT: [usize; 6] = [
+    0,
+    3 + fields::RECEIVER.len(),
+    3,
+    2 + fields::SOURCE.len(),
+    3,
+    3,
+];
 
-// How many widths it has.
-const COUNT: [usize; 6] = [0, 6, 3, 20, 3, 3];
+// Where its widths start among them.
+const START: [usize; 6] = [
+    0,
+    0,
+    COUNT[1],
+    COUNT[1] + COUNT[2],
+    COUNT[1] + COUNT[2] + COUNT[3],
+    COUNT[1] + COUNT[2] + COUNT[3] + COUNT[4],
+];
 
 // How many fields.
-const FIELDS: [usize; 6] = [0, 4, 1, 19, 1, 1];
+const FIELDS: [usize; 6] = [
+    0,
+    1 + fields::RECEIVER.len(),
+    1,
+    1 + fields::SOURCE.len(),
+    1,
+    1,
+];
 
 // How many bytes.
 const BYTES: [usize; 6] = [0, 9, 2, 30, 2, 2];

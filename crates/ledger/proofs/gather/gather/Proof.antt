@@ -58,7 +58,7 @@ loop-holds : tie.Need-loop-holds Inv-loop μ-loop
 loop-holds c = (omega arith, gather-begun pairOf pair-bounded (c .before .args .r) (bookOf (c .before .args .store .now) .sources))
 
 hear-source-requires : tie.Need-hear-source-requires Inv-loop μ-loop
-hear-source-requires c κs = let start = c .before .before .before in (start .pre .0, start .pre .1, c .loop-test .taken, start .pre .2)
+hear-source-requires c κs = let start = c .before .before .before in (start .pre .0, start .pre .1, omega (arith, c .loop-test .taken), start .pre .2)
 
 -- the turn's slot is one of the book's
 within : (c : tie.After-hear-source Inv-loop μ-loop) → c .before .before .loop .i < length (bookOf (c .before .before .before .before .args .store .now) .sources)
@@ -92,7 +92,7 @@ plus-requires c κs =
     let lp = h .before .before in
     let start = lp .before .before in
     let e = brings (start .args .r) (getD (bookOf (start .args .store .now) .sources) (lp .loop .i) none) _ (sym (h .hear-source .ensures) ∙ c .before .shares .given .1) in
-    gather-room pairOf pair-bounded (start .args .r) (bookOf (start .args .store .now) .sources) (lp .loop .i) (within h) (lp .loop .sums) (lp .loop .inv .1) (e .0) _ (h .before .loop-test .taken) (e .2)
+    gather-room pairOf pair-bounded (start .args .r) (bookOf (start .args .store .now) .sources) (lp .loop .i) (within h) (lp .loop .sums) (lp .loop .inv .1) (e .0) _ (omega (arith, h .before .loop-test .taken)) (e .2)
 
 add-i-2 : tie.Need-add-i-2 Inv-loop μ-loop
 add-i-2 c = omega arith
