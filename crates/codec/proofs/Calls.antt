@@ -14,7 +14,7 @@ use Rattle.road.proofs.Fit.{source-within, receiver-within}
 use Rattle.road.proofs.Judged.{slot-allowed}
 use Rattle.road.proofs.Rows as rows
 use Rattle.road.proofs.Rows.{upto, source-values-again}
-use Rattle.road.specs.Fields.{receiverTable, bitsBy}
+use Rattle.road.specs.Fields.{receiverTable, bitsBy, sourceTable}
 use Rattle.road.specs.Judge.{receiverFields, sourceVerdict, receiverVerdict}
 use Rattle.codec.specs.declared.Request.{Request}
 use Rattle.codec.specs.declared.Request.the-variants.{PlaceReceiver, WithdrawReceiver, PlaceSource, WithdrawSource, Ask}
@@ -151,9 +151,9 @@ pub fields-again : (k : ℕ) (v : List ℕ) → 0 < size (layoutOf k) → length
     → fieldsOf (callIn k v) (sourceIn k v) ≡ v
 unfolding kindAt
 fields-again zero v h l e f = absurd (omega arith)
-fields-again (suc zero) v h l e f = begun-over 1 v 3 l e f
+fields-again (suc zero) v h l e f = begun-over 1 v (length receiverTable) l e f
 fields-again (suc (suc zero)) v h l e f = begun-over 2 v 0 l e f
-fields-again (suc (suc (suc zero))) v h l e f = begun 3 v 18 l e (source-values-again (drop 2 v) (after 3 v 18 l e))
+fields-again (suc (suc (suc zero))) v h l e f = begun 3 v (length sourceTable) l e (source-values-again (drop 2 v) (after 3 v (length sourceTable) l e))
 fields-again (suc (suc (suc (suc zero)))) v h l e f = begun-over 4 v 0 l e f
 fields-again (suc (suc (suc (suc (suc zero))))) v h l e f = begun-over 5 v 0 l e f
 fields-again (suc (suc (suc (suc (suc (suc k)))))) v h l e f = absurd (omega arith)

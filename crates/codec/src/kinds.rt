@@ -69,9 +69,9 @@ const WIDTHS: [u8; 35] = [
 // How many widths a kind has. Here and below the first row is for no kind.
 const COUNT: [usize; 6] = [
     0,
-    3 + fields::RECEIVER.len(),
+    3 + fields::RECEIVER_ROWS,
     3,
-    2 + fields::SOURCE.len(),
+    2 + fields::SOURCE_ROWS,
     3,
     3,
 ];
@@ -89,9 +89,9 @@ const START: [usize; 6] = [
 // How many fields.
 const FIELDS: [usize; 6] = [
     0,
-    1 + fields::RECEIVER.len(),
+    1 + fields::RECEIVER_ROWS,
     1,
-    1 + fields::SOURCE.len(),
+    1 + fields::SOURCE_ROWS,
     1,
     1,
 ];
@@ -215,7 +215,7 @@ pub fn number(call: Request) -> usize
 pub fn blank() -> Source
     ensures { λ r. ⌜ r ≡ kinds.blank ⌝ }
 {
-    let none = [0u64; 18];
+    let none = [0u64; fields::SOURCE_ROWS];
     fields::source_of(&none, 0)
 }
 

@@ -38,11 +38,11 @@ spelled (x ∷ v) = ap (λ (l : List ℕ). x ∷ l) (spelled v)
 pub all-of : (n : ℕ) (v : List ℕ) → length v ≡ n → upto (λ i. getD v i 0) n ≡ v
 all-of n v h = ap (upto (λ i. getD v i 0)) (sym h) ∙ spelled v
 
-pub source-values-again : (v : List ℕ) → length v ≡ 18 → valuesBy sourceTable (sourceOf v) ≡ v
-source-values-again v h = all-of 18 v h
+pub source-values-again : (v : List ℕ) → length v ≡ length sourceTable → valuesBy sourceTable (sourceOf v) ≡ v
+source-values-again v h = all-of (length sourceTable) v h
 
-pub receiver-values-again : (v : List ℕ) → length v ≡ 3 → valuesBy receiverTable (receiverOf v) ≡ v
-receiver-values-again v h = all-of 3 v h
+pub receiver-values-again : (v : List ℕ) → length v ≡ length receiverTable → valuesBy receiverTable (receiverOf v) ≡ v
+receiver-values-again v h = all-of (length receiverTable) v h
 
 -- ---- the numbers of the code's rows
 

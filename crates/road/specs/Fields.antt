@@ -3,7 +3,7 @@
 use Prim.Native.Nat.{ℕ, suc, _+_, _*_, _^_, _<_}
 use mathlib.Core.Bool.{cond}
 use mathlib.Core.List.{List, [], _∷_, map}
-use lib.ListN.{getD, replicate}
+use lib.ListN.{getD, replicate, length}
 use lib.Dec.{ltb, eqb}
 use Rattle.road.specs.declared.Traffic.{Traffic}
 use Rattle.road.specs.declared.Source.{Source}
@@ -134,7 +134,7 @@ module _ {A : Type 0} where
 
 -- a road that rises, between walls: all its fields are 1
 abbrev pub plain : Source
-plain = sourceOf (replicate 18 1)
+plain = sourceOf (replicate (length sourceTable) 1)
 
 -- ---- which numbers the code can take for values
 

@@ -12,6 +12,11 @@ ghost use Prim.Native.Nat.{_+_, _≤_};
 ghost use lib.ListN.{length, drop};
 ghost use Rattle.road.specs.Fields.{sourceTable, receiverTable, sourceOf, receiverOf, valuesBy, leastBy, mostBy, slotBitsBy, rowsBy, plain, Fit};
 
+// How many fields a source has, and a receiver, beside the slot.
+pub const SOURCE_ROWS: usize = 18;
+
+pub const RECEIVER_ROWS: usize = 3;
+
 // The columns of a row: the field's number, its bits in a record, its bytes in a slot, the least and the most that it may be.
 pub(crate) const NUMBER: usize = 0;
 
@@ -24,7 +29,7 @@ const LEAST: usize = 3;
 const MOST: usize = 4;
 
 // The rows of a source. The limits of the gradient are for a road that rises, those of height and spacing for walls that are there.
-pub const SOURCE: [[u64; 5]; 18] = [
+pub const SOURCE: [[u64; 5]; SOURCE_ROWS] = [
     // x, y, length, lanes
     [2, 24, 3, 0, limits::COORDINATE],
     [3, 24, 3, 0, limits::COORDINATE],
@@ -50,7 +55,7 @@ pub const SOURCE: [[u64; 5]; 18] = [
 ];
 
 // The rows of a receiver.
-pub const RECEIVER: [[u64; 5]; 3] = [
+pub const RECEIVER: [[u64; 5]; RECEIVER_ROWS] = [
     // x, y, height
     [2, 24, 3, 0, limits::COORDINATE],
     [3, 24, 3, 0, limits::COORDINATE],
@@ -58,19 +63,19 @@ pub const RECEIVER: [[u64; 5]; 3] = [
 ];
 
 // The two columns of limits, of a receiver and of a source.
-pub(crate) const RECEIVER_LEAST: [u64; 3] = [
+pub(crate) const RECEIVER_LEAST: [u64; RECEIVER_ROWS] = [
     RECEIVER[0][LEAST],
     RECEIVER[1][LEAST],
     RECEIVER[2][LEAST],
 ];
 
-pub(crate) const RECEIVER_MOST: [u64; 3] = [
+pub(crate) const RECEIVER_MOST: [u64; RECEIVER_ROWS] = [
     RECEIVER[0][MOST],
     RECEIVER[1][MOST],
     RECEIVER[2][MOST],
 ];
 
-const SOURCE_LEAST: [u64; 18] = [
+const SOURCE_LEAST: [u64; SOURCE_ROWS] = [
     SOURCE[0][LEAST],
     SOURCE[1][LEAST],
     SOURCE[2][LEAST],
@@ -91,7 +96,7 @@ const SOURCE_LEAST: [u64; 18] = [
     SOURCE[17][LEAST],
 ];
 
-const SOURCE_MOST: [u64; 18] = [
+const SOURCE_MOST: [u64; SOURCE_ROWS] = [
     SOURCE[0][MOST],
     SOURCE[1][MOST],
     SOURCE[2][MOST],
@@ -120,21 +125,21 @@ const HEIGHT: usize = 10;
 const SPACING: usize = 11;
 
 // The rows of a source, with the limits of a road that rises between walls.
-pub(crate) fn source_rows() -> [[u64; 5]; 18]
+pub(crate) fn source_rows() -> [[u64; 5]; SOURCE_ROWS]
     ensures { λ r. ⌜ r ≡ rowsBy sourceTable plain ⌝ }
 {
     SOURCE
 }
 
 // The rows of a receiver.
-pub(crate) fn receiver_rows() -> [[u64; 5]; 3]
+pub(crate) fn receiver_rows() -> [[u64; 5]; RECEIVER_ROWS]
     ensures { λ r. ⌜ r ≡ rowsBy receiverTable (receiverOf []) ⌝ }
 {
     RECEIVER
 }
 
 // The values of a source.
-pub fn source_values(s: Source) -> [u64; 18]
+pub fn source_values(s: Source) -> [u64; SOURCE_ROWS]
     ensures { λ r. ⌜ r ≡ valuesBy sourceTable s ⌝ }
 {
     let traffic = s.traffic;
@@ -164,7 +169,7 @@ pub fn source_values(s: Source) -> [u64; 18]
 }
 
 // The values of a receiver.
-pub fn receiver_values(r: Receiver) -> [u64; 3]
+pub fn receiver_values(r: Receiver) -> [u64; RECEIVER_ROWS]
     ensures { λ v. ⌜ v ≡ valuesBy receiverTable r ⌝ }
 {
     [r.x as u64, r.y as u64, r.height as u64]
@@ -172,7 +177,7 @@ pub fn receiver_values(r: Receiver) -> [u64; 3]
 
 // The source of the values at the front of v.
 fn source_by(v: &[u64]) -> Source
-    requires { ⌜ (18 ≤ length (now v)) × Fit (slotBitsBy sourceTable) 0 (now v) ⌝ }
+    requires { ⌜ (length sourceTable ≤ length (now v)) × Fit (slotBitsBy sourceTable) 0 (now v) ⌝ }
     ensures { λ r. ⌜ r ≡ sourceOf (now (v .entry)) ⌝ }
 {
     let day = Traffic {
@@ -207,7 +212,7 @@ fn source_by(v: &[u64]) -> Source
 
 // The source of the values from index at on.
 pub fn source_of(v: &[u64], at: usize) -> Source
-    requires { ⌜ (at + 18 ≤ length (now v)) × Fit (slotBitsBy sourceTable) at (now v) ⌝ }
+    requires { ⌜ (at + length sourceTable ≤ length (now v)) × Fit (slotBitsBy sourceTable) at (now v) ⌝ }
     ensures { λ r. ⌜ r ≡ sourceOf (drop at (now (v .entry))) ⌝ }
 {
     source_by(&v[at..])
@@ -215,7 +220,7 @@ pub fn source_of(v: &[u64], at: usize) -> Source
 
 // The receiver of the values at the front of v.
 fn receiver_by(v: &[u64]) -> Receiver
-    requires { ⌜ (3 ≤ length (now v)) × Fit (slotBitsBy receiverTable) 0 (now v) ⌝ }
+    requires { ⌜ (length receiverTable ≤ length (now v)) × Fit (slotBitsBy receiverTable) 0 (now v) ⌝ }
     ensures { λ r. ⌜ r ≡ receiverOf (now (v .entry)) ⌝ }
 {
     Receiver {
@@ -227,7 +232,7 @@ fn receiver_by(v: &[u64]) -> Receiver
 
 // The receiver of the values from index at on.
 pub fn receiver_of(v: &[u64], at: usize) -> Receiver
-    requires { ⌜ (at + 3 ≤ length (now v)) × Fit (slotBitsBy receiverTable) at (now v) ⌝ }
+    requires { ⌜ (at + length receiverTable ≤ length (now v)) × Fit (slotBitsBy receiverTable) at (now v) ⌝ }
     ensures { λ r. ⌜ r ≡ receiverOf (drop at (now (v .entry))) ⌝ }
 {
     receiver_by(&v[at..])
@@ -244,7 +249,7 @@ fn either(first: bool, a: u64, b: u64) -> u64
 }
 
 // The least that each field of a source may be.
-pub(crate) fn source_least(s: Source) -> [u64; 18]
+pub(crate) fn source_least(s: Source) -> [u64; SOURCE_ROWS]
     ensures { λ r. ⌜ r ≡ leastBy sourceTable s ⌝ }
 {
     let gradient = either(
@@ -262,7 +267,7 @@ pub(crate) fn source_least(s: Source) -> [u64; 18]
 }
 
 // The most.
-pub(crate) fn source_most(s: Source) -> [u64; 18]
+pub(crate) fn source_most(s: Source) -> [u64; SOURCE_ROWS]
     ensures { λ r. ⌜ r ≡ mostBy sourceTable s ⌝ }
 {
     let gradient = either(

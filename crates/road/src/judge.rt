@@ -8,6 +8,7 @@ use crate::fields;
 use answer::Refusal;
 ghost use mathlib.Core.Path.{_≡_};
 ghost use Prim.Native.Nat.{_<_};
+ghost use lib.ListN.{length};
 ghost use Rattle.level.specs.Table.{table};
 ghost use Rattle.road.specs.Fields.{sourceTable, receiverTable, numberAt};
 ghost use Rattle.road.specs.Judge.{sourceVerdict, receiverVerdict, slotVerdict, quietTruck};
@@ -24,7 +25,7 @@ fn quiet_truck(steps: &[u32; 1000], s: Source) -> bool
 
 // The number of the field in row i of a source.
 fn source_number(i: usize) -> u16
-    requires { ⌜ i < 18 ⌝ }
+    requires { ⌜ i < length sourceTable ⌝ }
     ensures { λ r. ⌜ r ≡ numberAt sourceTable i ⌝ }
 {
     let rows = fields::source_rows();
@@ -34,7 +35,7 @@ fn source_number(i: usize) -> u16
 
 // And of a receiver.
 fn receiver_number(i: usize) -> u16
-    requires { ⌜ i < 3 ⌝ }
+    requires { ⌜ i < length receiverTable ⌝ }
     ensures { λ r. ⌜ r ≡ numberAt receiverTable i ⌝ }
 {
     let rows = fields::receiver_rows();
@@ -51,7 +52,7 @@ pub fn judge_source(steps: &[u32; 1000], s: Source) -> Verdict
     let least = fields::source_least(s);
     let most = fields::source_most(s);
     let at = layout::first_outside(&least, &most, &values);
-    if at < 18 {
+    if at < fields::SOURCE_ROWS {
         let number = source_number(at);
         return Verdict::Refused(Refusal::Field(number));
     }
@@ -72,7 +73,7 @@ pub fn judge_receiver(r: Receiver) -> Verdict
     let least = fields::RECEIVER_LEAST;
     let most = fields::RECEIVER_MOST;
     let at = layout::first_outside(&least, &most, &values);
-    if at < 3 {
+    if at < fields::RECEIVER_ROWS {
         let number = receiver_number(at);
         return Verdict::Refused(Refusal::Field(number));
     }

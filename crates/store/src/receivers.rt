@@ -24,7 +24,7 @@ ghost use Rattle.store.specs.Slots.{partyLayout, slotBy, slotBytes, foun
 ghost use Rattle.store.specs.Store.{receiverCount, receiverSize, storeLength, split, heldParty, heldFrom, heldFields, receiverAt, seatOf, HeldStands};
 
 // A slot's numbers: its mark, a receiver's values, and the three sums at these places.
-const DAY: usize = 1 + RECEIVER.len();
+const DAY: usize = 1 + fields::RECEIVER_ROWS;
 
 const EVENING: usize = DAY + 1;
 

@@ -24,7 +24,7 @@ ghost use Rattle.store.specs.Slots.{partyLayout, slotBy, slotBytes, foun
 ghost use Rattle.store.specs.Store.{sourceCount, sourceSize, storeLength, sourceParty, sourceAt, sourceSlotOf};
 
 // A slot's numbers: its mark and a source's values.
-const NUMBERS: usize = 1 + SOURCE.len();
+const NUMBERS: usize = 1 + fields::SOURCE_ROWS;
 
 // Their widths in bits: a byte for the mark, and the bytes of each field.
 const WIDTHS: [u8; NUMBERS] = [

@@ -3,6 +3,7 @@
 use mathlib.Core.Path.{ap, _∙_}
 use denote.Ref.{now}
 use borrow.Author.Needs.{needs}
+use lib.ListN.{length}
 use Rattle.road.specs.Fields.{receiverTable, receiverOf, slotBitsBy}
 use Rattle.road.proofs.Rows.{part-all, part-fit}
 use Rattle.road.proofs.fields.receiver_of.Statement.{statement}
@@ -23,7 +24,7 @@ part-receiver-by-end c = search needs
 receiver-by-requires : tie.Need-receiver-by-requires
 receiver-by-requires c κs =
     let z = c .before .before in
-    part-fit (z .args .at) (now (z .args .v)) 3 (slotBitsBy receiverTable) (z .pre .0) (z .pre .1)
+    part-fit (z .args .at) (now (z .args .v)) (length receiverTable) (slotBitsBy receiverTable) (z .pre .0) (z .pre .1)
 
 returns : tie.Need-returns
 returns c =
