@@ -66,18 +66,18 @@ const WIDTHS: [u8; 35] = [
     6,
 ];
 
-// How many widths a kind has. Here and below the first row is for no kind.
-const COUNT: [usize; 6] = [
+// How many widths a kind has. Here and below the first row is for no kind. (Bytes: a table is laid out anew at every use.)
+const COUNT: [u8; 6] = [
     0,
-    3 + fields::RECEIVER_ROWS,
+    3 + fields::RECEIVER_ROWS as u8,
     3,
-    2 + fields::SOURCE_ROWS,
+    2 + fields::SOURCE_ROWS as u8,
     3,
     3,
 ];
 
 // Where its widths start among them.
-const START: [usize; 6] = [
+const START: [u8; 6] = [
     0,
     0,
     COUNT[1],
@@ -87,17 +87,17 @@ const START: [usize; 6] = [
 ];
 
 // How many fields.
-const FIELDS: [usize; 6] = [
+const FIELDS: [u8; 6] = [
     0,
-    1 + fields::RECEIVER_ROWS,
+    1 + fields::RECEIVER_ROWS as u8,
     1,
-    1 + fields::SOURCE_ROWS,
+    1 + fields::SOURCE_ROWS as u8,
     1,
     1,
 ];
 
 // How many bytes.
-const BYTES: [usize; 6] = [0, 9, 2, 30, 2, 2];
+const BYTES: [u8; 6] = [0, 9, 2, 30, 2, 2];
 
 // The last slots that their bits can name, however many slots a book has.
 const LAST_NAMED_SOURCE: u16 = (1 << SOURCE_SLOT_BITS) - 1;
@@ -124,6 +124,13 @@ fn row(kind: usize) -> usize
     0
 }
 
+// A number of the tables.
+fn wide(n: u8) -> usize
+    ensures { λ r. ⌜ r ≡ n ⌝ }
+{
+    n as usize
+}
+
 // The sizes of a kind's layout; all 0 where it is not listed.
 pub fn shape_of(kind: usize) -> Shape
     ensures { λ r. ⌜ r ≡ shapeOf kind ⌝ }
@@ -133,9 +140,9 @@ pub fn shape_of(kind: usize) -> Shape
     let fields = FIELDS[at];
     let bytes = BYTES[at];
     Shape {
-        count,
-        fields,
-        bytes,
+        count: wide(count),
+        fields: wide(fields),
+        bytes: wide(bytes),
     }
 }
 
@@ -153,8 +160,10 @@ pub fn layout_of(widths: &[u8], kind: usize) -> &[u8]
 {
     let at = row(kind);
     let start = START[at];
-    let end = start + COUNT[at];
-    &widths[start..end]
+    let count = COUNT[at];
+    let from = wide(start);
+    let end = from + wide(count);
+    &widths[from..end]
 }
 
 // What the fields of a kind ask for.

@@ -14,26 +14,27 @@ use Rattle.codec.proofs.kinds.layout_of.Tie as tie
 row-requires : tie.Need-row-requires
 row-requires c κs = search needs
 
-mul-start : tie.Need-mul-start
-mul-start c = search needs
-
 array-read-start : tie.Need-array-read-start
 array-read-start c = search needs
 
-mul-end : tie.Need-mul-end
-mul-end c = search needs
+array-read-count : tie.Need-array-read-count
+array-read-count c = search needs
 
-array-read-end : tie.Need-array-read-end
-array-read-end c = search needs
+wide-requires : tie.Need-wide-requires
+wide-requires c κs = search needs
+
+wide-requires-2 : tie.Need-wide-requires-2
+wide-requires-2 c κs = search needs
 
 add-end : tie.Need-add-end
 unfolding allWidths
 add-end c =
-    let r = c .row .result in
-    let k = c .before .before .args .kind in
-    let e = c .row .ensures .0 in
-    let h = c .row .ensures .1 in
-    omega (arith, count-row r k e h, widths-end r k e h)
+    let b = c .before .before in
+    let r = b .row .result in
+    let k = b .before .before .args .kind in
+    let e = b .row .ensures .0 in
+    let h = b .row .ensures .1 in
+    omega (arith, c .before .wide .ensures, c .wide2 .ensures, count-row r k e h, widths-end r k e h)
 
 sub-result : tie.Need-sub-result
 sub-result c = search needs
@@ -44,32 +45,37 @@ part-result-start c = search needs
 part-result-end : tie.Need-part-result-end
 unfolding allWidths
 part-result-end c =
-    let r = c .row .result in
-    let k = c .before .before .args .kind in
-    let e = c .row .ensures .0 in
-    let h = c .row .ensures .1 in
-    omega (arith, count-row r k e h, widths-end r k e h, ap length (c .before .before .pre))
+    let b = c .before .before in
+    let r = b .row .result in
+    let k = b .before .before .args .kind in
+    let e = b .row .ensures .0 in
+    let h = b .row .ensures .1 in
+    omega (arith, c .before .wide .ensures, c .wide2 .ensures, count-row r k e h, widths-end r k e h, ap length (b .before .before .pre))
 
 returns : tie.Need-returns
 returns c =
-    let r = c .before .row .result in
-    let k = c .before .before .before .args .kind in
-    let e = c .before .row .ensures .0 in
-    let h = c .before .row .ensures .1 in
-    let a : ℕ = getD (starts 0 kinds) r 0 in
-    let m : a + length (layoutOf k) - a ≡ length (layoutOf k) = omega arith in
-    let n = count-row r k e h in
-    (λ i. take (a + n i - a) (drop a (c .before .before .before .pre i))) ∙ (λ i. take (m i) (drop a allWidths)) ∙ widths-row r k e h
+    let b = c .before .before .before in
+    let r = b .row .result in
+    let a = b .before .before in
+    let k = a .args .kind in
+    let e = b .row .ensures .0 in
+    let h = b .row .ensures .1 in
+    let from = c .before .before .wide .ensures in
+    let n = c .before .wide2 .ensures ∙ count-row r k e h in
+    let m : (x y : ℕ) → x + y - x ≡ y = λ x y. omega arith in
+    (λ i. take (from i + n i - from i) (drop (from i) (a .pre i)))
+    ∙ (λ i. take (m (getD (starts 0 kinds) r 0) (length (layoutOf k)) i) (drop (getD (starts 0 kinds) r 0) allWidths))
+    ∙ widths-row r k e h
 
 pub layout-of-spec : {M : Type 1} → statement M
 layout-of-spec =
     tie.close
     (tie.spec
     row-requires
-    mul-start
     array-read-start
-    mul-end
-    array-read-end
+    array-read-count
+    wide-requires
+    wide-requires-2
     add-end
     sub-result
     part-result-start
