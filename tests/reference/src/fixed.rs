@@ -9,7 +9,7 @@ use crate::fields::{
 };
 use crate::limits::{trial_values, TURNING_SPEEDS};
 use crate::probe::{Frame, LONGEST_IMAGE};
-use crate::record::{fields_of, kind_byte, spare_bits, unlisted_kinds, Record};
+use crate::record::{kind_byte, spare_bits, unlisted_kinds, Record};
 use crate::road::{Receiver, Source};
 use crate::store::{
     receiver_at, set_field, source_at, RECEIVER_BYTES, RECEIVER_SIZE, SOURCE_BYTES, SOURCE_SIZE,
@@ -111,10 +111,9 @@ pub(crate) fn trial_records(bits: impl Fn(&Field) -> u32) -> Vec<Record> {
     let mut records = Vec::new();
     let walled = Record::PlaceSource(1, walled_source());
     for record in one_of_each().into_iter().chain([walled]) {
-        let fields = fields_of(record.kind()).expect("every record has a listed kind");
-        for (at, field) in fields.iter().enumerate() {
+        for field in record.fields() {
             for value in trial_values(&mut Chance::new(0), field, bits(field)) {
-                records.push(record.with(at, value));
+                records.push(record.with(field, value));
             }
         }
     }

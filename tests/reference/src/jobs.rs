@@ -3,8 +3,7 @@
 
 use crate::chance::Chance;
 use crate::fields::{
-    widest, FARTHEST, HEIGHT, LENGTH, RECEIVERS, RECEIVER_FIELDS, RECEIVER_SLOT, SOURCES,
-    SOURCE_FIELDS, SOURCE_SLOT,
+    widest, FARTHEST, HEIGHT, LENGTH, RECEIVERS, RECEIVER_SLOT, SOURCES, SOURCE_SLOT,
 };
 use crate::fixed::{example_receiver, one_of_each};
 use crate::limits::{
@@ -13,7 +12,7 @@ use crate::limits::{
 };
 use crate::pieces::BUFFER;
 use crate::record::{
-    fields_of, kind_byte, kind_in, length_of, listed_kinds, spare_bits, unlisted_kinds, Record,
+    kind_byte, kind_in, length_of, listed_kinds, spare_bits, unlisted_kinds, Record,
 };
 use crate::road::{Receiver, Source, FARTHEST_SQUARE, LOUDEST, NEAREST_SQUARE};
 use crate::town::{road, traffic, Draft, Town, WIDE};
@@ -283,19 +282,16 @@ fn fields(chance: &mut Chance) -> Vec<u8> {
     let mut draft = Draft::default();
     let (receiver, way) = some_way(chance, 20_000);
     draft.put(Record::PlaceReceiver(0, receiver));
-    let base = way.place(road(chance), &receiver);
-    for field in &SOURCE_FIELDS[1..] {
+    let source = Record::PlaceSource(0, way.place(road(chance), &receiver));
+    for field in &source.fields()[1..] {
         for value in trial_values(chance, field, field.bits) {
-            let mut values = base.fields();
-            values[field.index()] = value;
-            try_source(&mut draft, Source::of_fields(values));
+            try_source(&mut draft, source.with(field, value));
         }
     }
-    for field in &RECEIVER_FIELDS[1..] {
+    let other = Record::PlaceReceiver(1, receiver);
+    for field in &other.fields()[1..] {
         for value in trial_values(chance, field, field.bits) {
-            let mut values = receiver.fields();
-            values[field.index()] = value;
-            try_receiver(&mut draft, Receiver::of_fields(values));
+            try_receiver(&mut draft, other.with(field, value));
         }
     }
     try_slots(&mut draft, chance);
@@ -305,24 +301,25 @@ fn fields(chance: &mut Chance) -> Vec<u8> {
 /// Puts one record of every kind on slots that may not be allowed.
 fn try_slots(draft: &mut Draft, chance: &mut Chance) {
     for record in one_of_each() {
-        let slot = &fields_of(record.kind()).expect("every record has a listed kind")[0];
+        let slot = &record.fields()[0];
         for value in trial_values(chance, slot, slot.bits) {
-            draft.put(record.with(0, value));
+            draft.put(record.with(slot, value));
         }
     }
 }
 
-/// Adds a source that may not be allowed, asks and takes it away.
-fn try_source(draft: &mut Draft, source: Source) {
-    draft.put(Record::PlaceSource(0, source));
+/// Places a source that may not be allowed, asks the first receiver and takes it away.
+fn try_source(draft: &mut Draft, place: Record) {
+    draft.put(place);
     draft.put(Record::Ask(0));
-    draft.put(Record::WithdrawSource(0));
+    draft.put(Record::WithdrawSource(place.slot()));
 }
 
-fn try_receiver(draft: &mut Draft, receiver: Receiver) {
-    draft.put(Record::PlaceReceiver(1, receiver));
-    draft.put(Record::Ask(1));
-    draft.put(Record::WithdrawReceiver(1));
+/// Places a receiver that may not be allowed, asks it and takes it away.
+fn try_receiver(draft: &mut Draft, place: Record) {
+    draft.put(place);
+    draft.put(Record::Ask(place.slot()));
+    draft.put(Record::WithdrawReceiver(place.slot()));
 }
 
 /// One road after the other before one receiver, each with every field anew.
@@ -333,7 +330,8 @@ fn terms(chance: &mut Chance) -> Vec<u8> {
         let (receiver, way) = some_way(chance, farthest);
         draft.put(Record::PlaceReceiver(0, receiver));
         for _ in 0..20 {
-            try_source(&mut draft, way.place(road(chance), &receiver));
+            let source = way.place(road(chance), &receiver);
+            try_source(&mut draft, Record::PlaceSource(0, source));
         }
         draft.put(Record::WithdrawReceiver(0));
         farthest += farthest / 4;
@@ -347,17 +345,16 @@ fn sweep(chance: &mut Chance) -> Vec<u8> {
     let (receiver, way) = some_way(chance, 9_000);
     draft.put(Record::PlaceReceiver(0, receiver));
     for _ in 0..4 {
-        let base = way.place(road(chance), &receiver);
-        let field = chance.pick(&SOURCE_FIELDS[LENGTH.number.into()..]);
+        let base = Record::PlaceSource(0, way.place(road(chance), &receiver));
+        let field = chance.pick(&base.fields()[LENGTH.number.into()..]);
         let most = widest(field.bits);
         for turn in 0..=255.min(most) {
-            let mut values = base.fields();
-            values[field.index()] = if most > 255 {
+            let value = if most > 255 {
                 chance.magnitude(most)
             } else {
                 turn
             };
-            try_source(&mut draft, Source::of_fields(values));
+            try_source(&mut draft, base.with(&field, value));
         }
     }
     draft.bytes

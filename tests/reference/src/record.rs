@@ -89,6 +89,11 @@ impl Record {
         }
     }
 
+    /// The fields of its kind, slot first.
+    pub fn fields(&self) -> &'static [Field] {
+        fields_of(self.kind()).expect("every record has a listed kind")
+    }
+
     /// Judges the fields: refusals 5, 6 and 7.
     pub fn judge(&self) -> Result<(), Refusal> {
         match self {
@@ -124,10 +129,10 @@ impl Record {
         values
     }
 
-    /// The same record with another value of one field.
-    pub fn with(&self, at: usize, value: i64) -> Record {
+    /// The same record with another value of one of its fields.
+    pub fn with(&self, field: &Field, value: i64) -> Record {
         let mut values = self.values();
-        values[at] = value;
+        values[usize::from(field.number) - 1] = value;
         let mut values = values.into_iter();
         Record::of(self.kind(), |_| {
             values.next().expect("every field has a value")
@@ -154,10 +159,9 @@ impl Record {
 
     /// The record's bytes without any judgement; of each field the lowest bits.
     pub fn bytes(&self) -> Vec<u8> {
-        let fields = fields_of(self.kind()).expect("every record has a listed kind");
         let mut packer = Packer::default();
         packer.put(i64::from(self.kind()), KIND_BITS);
-        for (value, field) in self.values().into_iter().zip(fields) {
+        for (value, field) in self.values().into_iter().zip(self.fields()) {
             packer.put(value, field.bits);
         }
         packer.finish()

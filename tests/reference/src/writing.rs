@@ -7,7 +7,7 @@ use crate::fields::{Field, RECEIVERS, RECEIVER_SLOT, SOURCES, SOURCE_FIELDS, SOU
 use crate::fixed::{one_of_each, surfaced_sources, trial_records};
 use crate::limits::trial_values;
 use crate::probe::{front, head, number, Deed, LONGEST_PIECE};
-use crate::record::{fields_of, length_of, read, write, Record, LONGEST};
+use crate::record::{length_of, read, write, Record, LONGEST};
 use crate::town::Town;
 
 /// A call and the bytes there are for its record, all FF before.
@@ -53,8 +53,7 @@ impl Writing {
         out.extend((self.room as u16).to_be_bytes());
         out.push(self.record.kind());
         let end = out.len() + SLOT + FIELDS;
-        let fields = fields_of(self.record.kind()).expect("every record has a listed kind");
-        for (value, field) in self.record.values().into_iter().zip(fields) {
+        for (value, field) in self.record.values().into_iter().zip(self.record.fields()) {
             out.extend(&value.to_be_bytes()[8 - bytes_of(field)..]);
         }
         out.resize(end, 0);
@@ -108,13 +107,12 @@ pub fn writing(seed: u64) -> Writing {
 
 /// The same record with its slot or a field at a limit, beyond it, or beyond what a record holds.
 fn changed(chance: &mut Chance, record: Record) -> Record {
-    let fields = fields_of(record.kind()).expect("every record has a listed kind");
-    let at = chance.index(fields.len());
-    let field = &fields[at];
+    let at = chance.index(record.fields().len());
+    let field = &record.fields()[at];
     let mut values = trial_values(chance, field, bits_of(field));
     values.push(record.values()[at]);
     let value = chance.pick(&values);
-    record.with(at, lifted(chance, value, field))
+    record.with(field, lifted(chance, value, field))
 }
 
 /// A value, or with a bit more than a record has, where the bytes leave room for it.

@@ -268,9 +268,9 @@ const RECEIVER_PAPER: [(u16, u32, i64, i64); 4] = [
 
 /// Whether a record with one field at a value is refused for this field.
 fn named(record: &Record, number: u16, value: i64) -> bool {
-    let at = usize::from(number) - 1;
+    let field = record.fields()[usize::from(number) - 1];
     let mut book = Book::cleared();
-    book.apply(&record.with(at, value)) == Answer::Refused(refused(5, number).unwrap_err())
+    book.apply(&record.with(&field, value)) == Answer::Refused(refused(5, number).unwrap_err())
 }
 
 #[test]
