@@ -3,9 +3,10 @@
 
 use crate::book::{encode, Book, TOP};
 use crate::chance::Chance;
+use crate::daily::Daily;
 use crate::fields::{
-    Field, CAR_SPEED, GRADIENT, MINUS, RECEIVERS, RECEIVER_FIELDS, SOURCES, SOURCE_FIELDS, SURFACE,
-    WALLS, WALL_HEIGHT, WALL_SPACING,
+    Field, CAR_SPEED, GRADIENT, MINUS, RECEIVERS, RECEIVER_FIELDS, SOURCES, SOURCE_FIELDS,
+    SOURCE_SLOT, SURFACE, WALLS, WALL_HEIGHT, WALL_SPACING,
 };
 use crate::limits::{trial_values, TURNING_SPEEDS};
 use crate::probe::{Frame, LONGEST_IMAGE};
@@ -52,6 +53,11 @@ fn walled_source() -> Source {
     }
 }
 
+/// A road by a daily figure, as a federal road has it.
+fn by_day(road: Source) -> Daily {
+    Daily::new(road, 1, 12_000)
+}
+
 fn bytes_of(records: &[Record]) -> Vec<u8> {
     records.iter().flat_map(Record::bytes).collect()
 }
@@ -67,13 +73,14 @@ pub fn example() -> Vec<u8> {
 }
 
 /// One record of each kind, all fit for the worked case.
-pub(crate) fn one_of_each() -> [Record; 5] {
+pub(crate) fn one_of_each() -> [Record; 6] {
     [
         Record::PlaceReceiver(6, example_receiver()),
         Record::WithdrawReceiver(5),
         Record::PlaceSource(1, example_source()),
         Record::WithdrawSource(0),
         Record::Ask(5),
+        Record::PlaceDaily(2, by_day(example_source())),
     ]
 }
 
@@ -109,8 +116,11 @@ fn leftover_records() -> Vec<Vec<u8>> {
 /// worth trying in as many bits as it is to have.
 pub(crate) fn trial_records(bits: impl Fn(&Field) -> u32) -> Vec<Record> {
     let mut records = Vec::new();
-    let walled = Record::PlaceSource(1, walled_source());
-    for record in one_of_each().into_iter().chain([walled]) {
+    let walled = [
+        Record::PlaceSource(1, walled_source()),
+        Record::PlaceDaily(2, by_day(walled_source())),
+    ];
+    for record in one_of_each().into_iter().chain(walled) {
         for field in record.fields() {
             for value in trial_values(&mut Chance::new(0), field, bits(field)) {
                 records.push(record.with(field, value));
@@ -121,7 +131,7 @@ pub(crate) fn trial_records(bits: impl Fn(&Field) -> u32) -> Vec<Record> {
 }
 
 /// Every surface at the speeds at which it may count otherwise.
-pub(crate) fn surfaced_sources() -> Vec<Source> {
+fn surfaced_sources() -> Vec<Source> {
     let at_speed = |&car_speed: &i64| {
         (SURFACE.least()..=SURFACE.most()).map(move |surface| Source {
             car_speed,
@@ -141,7 +151,7 @@ fn parade(records: &[Record]) -> Vec<u8> {
     for &record in records {
         job.push(record);
         match record {
-            Record::PlaceSource(slot, _) => {
+            Record::PlaceSource(slot, _) | Record::PlaceDaily(slot, _) => {
                 job.extend([Record::Ask(5), Record::WithdrawSource(slot)]);
             }
             Record::PlaceReceiver(slot, _) => {
@@ -154,20 +164,26 @@ fn parade(records: &[Record]) -> Vec<u8> {
     bytes_of(&job)
 }
 
-/// Places a source into the last slot.
-fn place_last(source: Source) -> Record {
-    Record::PlaceSource(SOURCES as i64 - 1, source)
+/// Places every surface at such speeds into the last slot, with its traffic or by a daily figure.
+pub(crate) fn surfaced_records() -> Vec<Record> {
+    let last = SOURCE_SLOT.most();
+    let places = |source: Source| {
+        [
+            Record::PlaceSource(last, source),
+            Record::PlaceDaily(last, by_day(source)),
+        ]
+    };
+    surfaced_sources().into_iter().flat_map(places).collect()
 }
 
 /// Jobs that are tried every time.
 pub fn fixed_jobs() -> Vec<Vec<u8>> {
     let after_example = |bytes: &Vec<u8>| [example(), bytes.clone()].concat();
-    let surfaced: Vec<Record> = surfaced_sources().into_iter().map(place_last).collect();
     let mut jobs = vec![
         Vec::new(),
         example(),
         parade(&trial_records(|field| field.bits)),
-        parade(&surfaced),
+        parade(&surfaced_records()),
         [example(), leftover_records().concat()].concat(),
     ];
     jobs.extend(cut_records().iter().map(after_example));
@@ -193,9 +209,8 @@ fn record_frames() -> Vec<Frame> {
     records.extend(cut_records());
     records.extend(unlisted_records());
     records.extend(leftover_records());
-    let surfaced = surfaced_sources().into_iter().map(place_last);
     let tried = trial_records(|field| field.bits).into_iter();
-    records.extend(tried.chain(surfaced).map(|record| record.bytes()));
+    records.extend(tried.chain(surfaced_records()).map(|record| record.bytes()));
     let mut frames = Vec::new();
     for record in records {
         for image in [example_image(), vec![1; 3]] {
@@ -206,17 +221,24 @@ fn record_frames() -> Vec<Frame> {
     frames
 }
 
-/// The worked case with one field of a slot set to a value: a question and a withdrawal.
-fn field_frame(slot_at: usize, widths: &[usize], field: usize, value: u64) -> [Frame; 2] {
-    let mut image = example_image();
-    set_field(&mut image, slot_at, widths, field, value);
-    [Record::Ask(5), Record::WithdrawSource(0)].map(|record| Frame {
-        image: image.clone(),
+/// A stored state with one record after the other.
+fn frames_on(image: &[u8], records: &[Record]) -> Vec<Frame> {
+    let frame = |record: &Record| Frame {
+        image: image.to_vec(),
         record: record.bytes(),
-    })
+    };
+    records.iter().map(frame).collect()
 }
 
-/// Probes of fields: each of a standing source and receiver at every value worth trying.
+/// The worked case with one field of a slot set to a value.
+fn image_with(slot_at: usize, widths: &[usize], field: usize, value: u64) -> Vec<u8> {
+    let mut image = example_image();
+    set_field(&mut image, slot_at, widths, field, value);
+    image
+}
+
+/// Probes of fields: each of a standing source and receiver at every value worth trying, with a
+/// question and a withdrawal; and each sum, with one record of every kind.
 fn field_frames() -> Vec<Frame> {
     let mut frames = Vec::new();
     let parties = [
@@ -226,13 +248,18 @@ fn field_frames() -> Vec<Frame> {
     for (fields, slot_at, widths) in parties {
         for field in fields {
             for value in trial_values(&mut Chance::new(0), field, field.stored_bits()) {
-                frames.extend(field_frame(slot_at, widths, field.index(), value as u64));
+                let image = image_with(slot_at, widths, field.index(), value as u64);
+                frames.extend(frames_on(
+                    &image,
+                    &[Record::Ask(5), Record::WithdrawSource(0)],
+                ));
             }
         }
     }
     for sum in sum_edges() {
         for field in SUMS..RECEIVER_BYTES.len() {
-            frames.extend(field_frame(receiver_at(5), &RECEIVER_BYTES, field, sum));
+            let image = image_with(receiver_at(5), &RECEIVER_BYTES, field, sum);
+            frames.extend(frames_on(&image, &one_of_each()));
         }
     }
     frames
@@ -313,12 +340,9 @@ fn length_frames() -> Vec<Frame> {
         STORE_SIZE + 1,
         LONGEST_IMAGE,
     ] {
-        for record in one_of_each() {
-            let mut image = example_image();
-            image.resize(length, 0);
-            let record = record.bytes();
-            frames.push(Frame { image, record });
-        }
+        let mut image = example_image();
+        image.resize(length, 0);
+        frames.extend(frames_on(&image, &one_of_each()));
     }
     frames
 }

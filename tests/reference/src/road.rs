@@ -150,7 +150,7 @@ impl Source {
     }
 
     /// Whether a field may have a value; without walls their sizes are 0.
-    fn allows(&self, field: &Field, value: i64) -> bool {
+    pub fn allows(&self, field: &Field, value: i64) -> bool {
         if self.walls == 0 && field.of_walls() {
             value == 0
         } else {
@@ -185,7 +185,7 @@ pub fn judge_slot(slot: i64, field: &Field) -> Result<(), Refusal> {
 }
 
 /// Judges the values of the fields after the slot: refusal 5 for the first that is not allowed.
-fn judge_fields(
+pub fn judge_fields(
     fields: &[Field],
     values: &[i64],
     allows: impl Fn(&Field, i64) -> bool,

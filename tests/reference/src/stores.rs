@@ -20,7 +20,7 @@ use crate::store::{
     receiver_at, set_field, source_at, RECEIVERS_AT, RECEIVER_BYTES, RECEIVER_SIZE, SOURCE_BYTES,
     SOURCE_SIZE, STORE_SIZE, SUMS,
 };
-use crate::town::{road, Town, WIDE};
+use crate::town::{placing, road, Town, WIDE};
 
 /// What makes one kind of probe.
 type Maker = fn(&mut Chance) -> Frame;
@@ -116,7 +116,10 @@ pub(crate) fn fitting_record(chance: &mut Chance, town: &Town, book: &Book) -> R
     match chance.between(0, 7) {
         0 => Record::PlaceReceiver(receiver(chance, !fits), town.receiver(chance)),
         1 => Record::WithdrawReceiver(receiver(chance, fits)),
-        2 | 3 => Record::PlaceSource(source(chance, !fits), town.source(chance)),
+        2 | 3 => {
+            let slot = source(chance, !fits);
+            town.placing(chance, slot)
+        }
         4 | 5 => Record::WithdrawSource(source(chance, fits)),
         _ => Record::Ask(receiver(chance, fits)),
     }
@@ -187,7 +190,8 @@ fn disallowed(chance: &mut Chance) -> Frame {
 
 /// The bytes of a source with one field, or two, or its surface, not allowed.
 fn broken_source(chance: &mut Chance) -> Vec<u8> {
-    let place = Record::PlaceSource(chance.within(&SOURCE_SLOT), road(chance));
+    let (slot, road) = (chance.within(&SOURCE_SLOT), road(chance));
+    let place = placing(chance, slot, road);
     let last = place.fields()[place.fields().len() - 1];
     let broken = match chance.between(0, 15) {
         0 => place
