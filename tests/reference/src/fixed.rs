@@ -11,7 +11,7 @@ use crate::fields::{
 use crate::limits::{trial_values, TURNING_SPEEDS};
 use crate::probe::{Frame, LONGEST_IMAGE};
 use crate::record::{kind_byte, spare_bits, unlisted_kinds, Record};
-use crate::road::{Receiver, Source};
+use crate::road::{Receiver, Source, FAST_ABOVE, FAST_SURFACE};
 use crate::store::{
     receiver_at, set_field, source_at, RECEIVER_BYTES, RECEIVER_SIZE, SOURCE_BYTES, SOURCE_SIZE,
     STORE_SIZE, SUMS,
@@ -53,9 +53,12 @@ fn walled_source() -> Source {
     }
 }
 
-/// A road by a daily figure, as a federal road has it.
-fn by_day(road: Source) -> Daily {
-    Daily::new(road, 1, 12_000)
+/// Records that place a source: with its traffic, and by a daily figure as a federal road has it.
+fn both_ways(source: Source) -> [Record; 2] {
+    [
+        Record::PlaceSource(1, source),
+        Record::PlaceDaily(2, Daily::new(source, 1, 12_000)),
+    ]
 }
 
 fn bytes_of(records: &[Record]) -> Vec<u8> {
@@ -74,13 +77,14 @@ pub fn example() -> Vec<u8> {
 
 /// One record of each kind, all fit for the worked case.
 pub(crate) fn one_of_each() -> [Record; 6] {
+    let [place_source, place_daily] = both_ways(example_source());
     [
         Record::PlaceReceiver(6, example_receiver()),
         Record::WithdrawReceiver(5),
-        Record::PlaceSource(1, example_source()),
+        place_source,
         Record::WithdrawSource(0),
         Record::Ask(5),
-        Record::PlaceDaily(2, by_day(example_source())),
+        place_daily,
     ]
 }
 
@@ -113,18 +117,35 @@ fn leftover_records() -> Vec<Vec<u8>> {
 }
 
 /// Every kind of record with one field after the other, the slot among them, at every value
-/// worth trying in as many bits as it is to have.
+/// worth trying in as many bits as it is to have, and with more than one field wrong.
 pub(crate) fn trial_records(bits: impl Fn(&Field) -> u32) -> Vec<Record> {
     let mut records = Vec::new();
-    let walled = [
-        Record::PlaceSource(1, walled_source()),
-        Record::PlaceDaily(2, by_day(walled_source())),
-    ];
+    let walled = both_ways(walled_source());
     for record in one_of_each().into_iter().chain(walled) {
         for field in record.fields() {
             for value in trial_values(&mut Chance::new(0), field, bits(field)) {
                 records.push(record.with(field, value));
             }
+        }
+    }
+    let slow = |place: Record| {
+        place
+            .with(&SURFACE, FAST_SURFACE)
+            .with(&CAR_SPEED, FAST_ABOVE)
+    };
+    for record in walled.map(slow) {
+        records.extend(wrong_from_each(record, &bits));
+    }
+    records
+}
+
+/// A record with all fields wrong from one on that can be, for one field after the other.
+fn wrong_from_each(mut record: Record, bits: impl Fn(&Field) -> u32) -> Vec<Record> {
+    let mut records = Vec::new();
+    for field in record.fields().iter().rev() {
+        for wrong in field.outer_edges(bits(field)) {
+            record = record.with(field, wrong);
+            records.push(record);
         }
     }
     records
@@ -164,16 +185,11 @@ fn parade(records: &[Record]) -> Vec<u8> {
     bytes_of(&job)
 }
 
-/// Places every surface at such speeds into the last slot, with its traffic or by a daily figure.
+/// Records that place such sources into the last slot.
 pub(crate) fn surfaced_records() -> Vec<Record> {
-    let last = SOURCE_SLOT.most();
-    let places = |source: Source| {
-        [
-            Record::PlaceSource(last, source),
-            Record::PlaceDaily(last, by_day(source)),
-        ]
-    };
-    surfaced_sources().into_iter().flat_map(places).collect()
+    let places = surfaced_sources().into_iter().flat_map(both_ways);
+    let last = |place: Record| place.with(&SOURCE_SLOT, SOURCE_SLOT.most());
+    places.map(last).collect()
 }
 
 /// Jobs that are tried every time.

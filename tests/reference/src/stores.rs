@@ -188,18 +188,17 @@ fn disallowed(chance: &mut Chance) -> Frame {
     frame
 }
 
-/// The bytes of a source with one field, or two, or its surface, not allowed.
+/// The bytes of a source with one field, or its surface, or two of these, not allowed.
 fn broken_source(chance: &mut Chance) -> Vec<u8> {
     let (slot, road) = (chance.within(&SOURCE_SLOT), road(chance));
     let place = placing(chance, slot, road);
-    let last = place.fields()[place.fields().len() - 1];
+    let slow = place
+        .with(&SURFACE, chance.between(FAST_SURFACE, SURFACE.most()))
+        .with(&CAR_SPEED, chance.between(CAR_SPEED.least(), FAST_ABOVE));
     let broken = match chance.between(0, 15) {
-        0 => place
-            .with(&REFLECTION, REFLECTION.most() + 1)
-            .with(&last, last.most() + 1),
-        1..=5 => place
-            .with(&SURFACE, chance.between(FAST_SURFACE, SURFACE.most()))
-            .with(&CAR_SPEED, chance.between(CAR_SPEED.least(), FAST_ABOVE)),
+        0 => past_an_edge(chance, place.with(&REFLECTION, REFLECTION.most() + 1)),
+        1 => past_an_edge(chance, slow),
+        2..=5 => slow,
         _ => past_an_edge(chance, place),
     };
     broken.bytes()

@@ -2,12 +2,13 @@
 // Number 7 is not among them: no allowed speeds make a truck quieter than a car.
 
 use reference::book::{decode, Answer, Book};
+use reference::fields::{Field, CAR_SPEED, SURFACE};
 use reference::fixed::{fixed_frames, fixed_jobs};
 use reference::jobs::job;
 use reference::listing::{list, Tally};
 use reference::probe::Frame;
-use reference::record::{extent, kind_in, listed_kinds, read, write, Record};
-use reference::road::Refusal;
+use reference::record::{extent, fields_of, kind_in, listed_kinds, read, write, Record};
+use reference::road::{Refusal, FAST_ABOVE, FAST_SURFACE};
 use reference::stores::frame;
 use reference::writing::{fixed_writings, writing, Writing};
 
@@ -202,6 +203,33 @@ fn writings_meet_every_refusal_of_the_writer() {
         assert_eq!(possible, met > 0, "refusal {number}");
     }
     assert!(places.into_iter().skip(1).all(|met| met > 0));
+}
+
+/// Whether some fixed writing of a kind is refused for a field although other fields are wrong too.
+fn named_although(kind: u8, field: &Field, wrong: impl Fn(&Record) -> bool) -> bool {
+    let refusal = Refusal {
+        number: 5,
+        place: field.number,
+    };
+    let mut records = fixed_writings().into_iter().map(|writing| writing.record);
+    records.any(|record| record.kind() == kind && record.judge() == Err(refusal) && wrong(&record))
+}
+
+#[test]
+fn fixed_writings_of_sources_have_more_than_one_field_wrong() {
+    for kind in [3, 6] {
+        let fields = fields_of(kind).unwrap();
+        let value = |record: &Record, field: &Field| record.values()[usize::from(field.number) - 1];
+        for pair in fields.windows(2) {
+            let next_wrong = |record: &Record| !pair[1].allows(value(record, &pair[1]));
+            assert!(named_although(kind, &pair[0], next_wrong), "{pair:?}");
+        }
+        let slow = |record: &Record| {
+            let fast_surface = value(record, &SURFACE) >= FAST_SURFACE;
+            fast_surface && value(record, &CAR_SPEED) <= FAST_ABOVE
+        };
+        assert!(named_although(kind, &fields[fields.len() - 1], slow));
+    }
 }
 
 #[test]
