@@ -1,6 +1,7 @@
 // The book: sources and receivers in their slots, and what each receiver has gathered.
 // A refused call changes nothing, so every call finds out all it needs before it writes.
 
+use crate::daily::{judge_daily, Daily};
 use crate::fields::{RECEIVERS, RECEIVER_SLOT, SOURCES, SOURCE_SLOT};
 use crate::level::{energy, level};
 use crate::record::{read, Record};
@@ -120,6 +121,13 @@ impl Book {
         Ok(())
     }
 
+    /// Places the source that a daily figure stands for.
+    pub fn place_daily(&mut self, slot: i64, daily: &Daily) -> Result<(), Refusal> {
+        judge_slot(slot, &SOURCE_SLOT)?;
+        judge_daily(daily)?;
+        self.place_source(slot, &daily.source())
+    }
+
     pub fn withdraw_source(&mut self, slot: i64) -> Result<(), Refusal> {
         judge_slot(slot, &SOURCE_SLOT)?;
         let source = self.sources[slot as usize].ok_or(refusal(9))?;
@@ -177,6 +185,7 @@ impl Book {
             Record::PlaceReceiver(slot, receiver) => self.place_receiver(*slot, receiver),
             Record::WithdrawReceiver(slot) => self.withdraw_receiver(*slot),
             Record::PlaceSource(slot, source) => self.place_source(*slot, source),
+            Record::PlaceDaily(slot, daily) => self.place_daily(*slot, daily),
             Record::WithdrawSource(slot) => self.withdraw_source(*slot),
             Record::Ask(slot) => match self.ask(*slot) {
                 Ok(levels) => return Answer::Levels(levels),

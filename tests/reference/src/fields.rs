@@ -76,8 +76,12 @@ const fn trucks(number: u16) -> Field {
     field(number, "p", 10, &[(0, 1000)])
 }
 
-/// The fields of a source in their order.
-pub static SOURCE_FIELDS: [Field; 19] = [
+/// The class of a road, by the rows of the table of traffic, and the vehicles of a day.
+pub const CLASS: Field = field(14, "class", 2, &[(0, 3)]);
+pub const DTV: Field = field(15, "DTV", 18, &[(1, 160_000)]);
+
+/// The fields of every source before those of its traffic, in their order.
+const ROAD_FIELDS: [Field; 13] = [
     SOURCE_SLOT,
     X,
     Y,
@@ -91,6 +95,10 @@ pub static SOURCE_FIELDS: [Field; 19] = [
     WALLS,
     WALL_HEIGHT,
     WALL_SPACING,
+];
+
+/// The traffic of a source, period by period.
+const TRAFFIC_FIELDS: [Field; 6] = [
     VEHICLES,
     TRUCKS,
     vehicles(16),
@@ -98,6 +106,26 @@ pub static SOURCE_FIELDS: [Field; 19] = [
     vehicles(18),
     trucks(19),
 ];
+
+/// The fields of a source in their order.
+pub static SOURCE_FIELDS: [Field; 19] = on_a_road(&TRAFFIC_FIELDS);
+
+/// The fields of a source that is told by its daily figure, in their order.
+pub static DAILY_FIELDS: [Field; 15] = on_a_road(&[CLASS, DTV]);
+
+const fn on_a_road<const N: usize>(traffic: &[Field]) -> [Field; N] {
+    let mut fields = [SOURCE_SLOT; N];
+    let mut at = 0;
+    while at < N {
+        fields[at] = if at < ROAD_FIELDS.len() {
+            ROAD_FIELDS[at]
+        } else {
+            traffic[at - ROAD_FIELDS.len()]
+        };
+        at += 1;
+    }
+    fields
+}
 
 /// The fields of a receiver in their order.
 pub static RECEIVER_FIELDS: [Field; 4] = [RECEIVER_SLOT, X, Y, HEIGHT];

@@ -3,14 +3,15 @@
 
 use crate::book::{encode, Book, TOP};
 use crate::chance::Chance;
+use crate::daily::Daily;
 use crate::fields::{
-    Field, CAR_SPEED, GRADIENT, MINUS, RECEIVERS, RECEIVER_FIELDS, SOURCES, SOURCE_FIELDS, SURFACE,
-    WALLS, WALL_HEIGHT, WALL_SPACING,
+    Field, CAR_SPEED, GRADIENT, MINUS, RECEIVERS, RECEIVER_FIELDS, SOURCES, SOURCE_FIELDS,
+    SOURCE_SLOT, SURFACE, WALLS, WALL_HEIGHT, WALL_SPACING,
 };
 use crate::limits::{trial_values, TURNING_SPEEDS};
 use crate::probe::{Frame, LONGEST_IMAGE};
-use crate::record::{fields_of, kind_byte, spare_bits, unlisted_kinds, Record};
-use crate::road::{Receiver, Source};
+use crate::record::{kind_byte, spare_bits, unlisted_kinds, Record};
+use crate::road::{Receiver, Source, FAST_ABOVE, FAST_SURFACE};
 use crate::store::{
     receiver_at, set_field, source_at, RECEIVER_BYTES, RECEIVER_SIZE, SOURCE_BYTES, SOURCE_SIZE,
     STORE_SIZE, SUMS,
@@ -52,6 +53,14 @@ fn walled_source() -> Source {
     }
 }
 
+/// Records that place a source: with its traffic, and by a daily figure as a federal road has it.
+fn both_ways(source: Source) -> [Record; 2] {
+    [
+        Record::PlaceSource(1, source),
+        Record::PlaceDaily(2, Daily::new(source, 1, 12_000)),
+    ]
+}
+
 fn bytes_of(records: &[Record]) -> Vec<u8> {
     records.iter().flat_map(Record::bytes).collect()
 }
@@ -67,13 +76,15 @@ pub fn example() -> Vec<u8> {
 }
 
 /// One record of each kind, all fit for the worked case.
-pub(crate) fn one_of_each() -> [Record; 5] {
+pub(crate) fn one_of_each() -> [Record; 6] {
+    let [place_source, place_daily] = both_ways(example_source());
     [
         Record::PlaceReceiver(6, example_receiver()),
         Record::WithdrawReceiver(5),
-        Record::PlaceSource(1, example_source()),
+        place_source,
         Record::WithdrawSource(0),
         Record::Ask(5),
+        place_daily,
     ]
 }
 
@@ -106,23 +117,42 @@ fn leftover_records() -> Vec<Vec<u8>> {
 }
 
 /// Every kind of record with one field after the other, the slot among them, at every value
-/// worth trying in as many bits as it is to have.
+/// worth trying in as many bits as it is to have, and with more than one field wrong.
 pub(crate) fn trial_records(bits: impl Fn(&Field) -> u32) -> Vec<Record> {
     let mut records = Vec::new();
-    let walled = Record::PlaceSource(1, walled_source());
-    for record in one_of_each().into_iter().chain([walled]) {
-        let fields = fields_of(record.kind()).expect("every record has a listed kind");
-        for (at, field) in fields.iter().enumerate() {
+    let walled = both_ways(walled_source());
+    for record in one_of_each().into_iter().chain(walled) {
+        for field in record.fields() {
             for value in trial_values(&mut Chance::new(0), field, bits(field)) {
-                records.push(record.with(at, value));
+                records.push(record.with(field, value));
             }
+        }
+    }
+    let slow = |place: Record| {
+        place
+            .with(&SURFACE, FAST_SURFACE)
+            .with(&CAR_SPEED, FAST_ABOVE)
+    };
+    for record in walled.map(slow) {
+        records.extend(wrong_from_each(record, &bits));
+    }
+    records
+}
+
+/// A record with all fields wrong from one on that can be, for one field after the other.
+fn wrong_from_each(mut record: Record, bits: impl Fn(&Field) -> u32) -> Vec<Record> {
+    let mut records = Vec::new();
+    for field in record.fields().iter().rev() {
+        for wrong in field.outer_edges(bits(field)) {
+            record = record.with(field, wrong);
+            records.push(record);
         }
     }
     records
 }
 
 /// Every surface at the speeds at which it may count otherwise.
-pub(crate) fn surfaced_sources() -> Vec<Source> {
+fn surfaced_sources() -> Vec<Source> {
     let at_speed = |&car_speed: &i64| {
         (SURFACE.least()..=SURFACE.most()).map(move |surface| Source {
             car_speed,
@@ -142,7 +172,7 @@ fn parade(records: &[Record]) -> Vec<u8> {
     for &record in records {
         job.push(record);
         match record {
-            Record::PlaceSource(slot, _) => {
+            Record::PlaceSource(slot, _) | Record::PlaceDaily(slot, _) => {
                 job.extend([Record::Ask(5), Record::WithdrawSource(slot)]);
             }
             Record::PlaceReceiver(slot, _) => {
@@ -155,20 +185,21 @@ fn parade(records: &[Record]) -> Vec<u8> {
     bytes_of(&job)
 }
 
-/// Places a source into the last slot.
-fn place_last(source: Source) -> Record {
-    Record::PlaceSource(SOURCES as i64 - 1, source)
+/// Records that place such sources into the last slot.
+pub(crate) fn surfaced_records() -> Vec<Record> {
+    let places = surfaced_sources().into_iter().flat_map(both_ways);
+    let last = |place: Record| place.with(&SOURCE_SLOT, SOURCE_SLOT.most());
+    places.map(last).collect()
 }
 
 /// Jobs that are tried every time.
 pub fn fixed_jobs() -> Vec<Vec<u8>> {
     let after_example = |bytes: &Vec<u8>| [example(), bytes.clone()].concat();
-    let surfaced: Vec<Record> = surfaced_sources().into_iter().map(place_last).collect();
     let mut jobs = vec![
         Vec::new(),
         example(),
         parade(&trial_records(|field| field.bits)),
-        parade(&surfaced),
+        parade(&surfaced_records()),
         [example(), leftover_records().concat()].concat(),
     ];
     jobs.extend(cut_records().iter().map(after_example));
@@ -194,9 +225,8 @@ fn record_frames() -> Vec<Frame> {
     records.extend(cut_records());
     records.extend(unlisted_records());
     records.extend(leftover_records());
-    let surfaced = surfaced_sources().into_iter().map(place_last);
     let tried = trial_records(|field| field.bits).into_iter();
-    records.extend(tried.chain(surfaced).map(|record| record.bytes()));
+    records.extend(tried.chain(surfaced_records()).map(|record| record.bytes()));
     let mut frames = Vec::new();
     for record in records {
         for image in [example_image(), vec![1; 3]] {
@@ -207,17 +237,24 @@ fn record_frames() -> Vec<Frame> {
     frames
 }
 
-/// The worked case with one field of a slot set to a value: a question and a withdrawal.
-fn field_frame(slot_at: usize, widths: &[usize], field: usize, value: u64) -> [Frame; 2] {
-    let mut image = example_image();
-    set_field(&mut image, slot_at, widths, field, value);
-    [Record::Ask(5), Record::WithdrawSource(0)].map(|record| Frame {
-        image: image.clone(),
+/// A stored state with one record after the other.
+fn frames_on(image: &[u8], records: &[Record]) -> Vec<Frame> {
+    let frame = |record: &Record| Frame {
+        image: image.to_vec(),
         record: record.bytes(),
-    })
+    };
+    records.iter().map(frame).collect()
 }
 
-/// Probes of fields: each of a standing source and receiver at every value worth trying.
+/// The worked case with one field of a slot set to a value.
+fn image_with(slot_at: usize, widths: &[usize], field: usize, value: u64) -> Vec<u8> {
+    let mut image = example_image();
+    set_field(&mut image, slot_at, widths, field, value);
+    image
+}
+
+/// Probes of fields: each of a standing source and receiver at every value worth trying, with a
+/// question and a withdrawal; and each sum, with one record of every kind.
 fn field_frames() -> Vec<Frame> {
     let mut frames = Vec::new();
     let parties = [
@@ -227,13 +264,18 @@ fn field_frames() -> Vec<Frame> {
     for (fields, slot_at, widths) in parties {
         for field in fields {
             for value in trial_values(&mut Chance::new(0), field, field.stored_bits()) {
-                frames.extend(field_frame(slot_at, widths, field.index(), value as u64));
+                let image = image_with(slot_at, widths, field.index(), value as u64);
+                frames.extend(frames_on(
+                    &image,
+                    &[Record::Ask(5), Record::WithdrawSource(0)],
+                ));
             }
         }
     }
     for sum in sum_edges() {
         for field in SUMS..RECEIVER_BYTES.len() {
-            frames.extend(field_frame(receiver_at(5), &RECEIVER_BYTES, field, sum));
+            let image = image_with(receiver_at(5), &RECEIVER_BYTES, field, sum);
+            frames.extend(frames_on(&image, &one_of_each()));
         }
     }
     frames
@@ -314,12 +356,9 @@ fn length_frames() -> Vec<Frame> {
         STORE_SIZE + 1,
         LONGEST_IMAGE,
     ] {
-        for record in one_of_each() {
-            let mut image = example_image();
-            image.resize(length, 0);
-            let record = record.bytes();
-            frames.push(Frame { image, record });
-        }
+        let mut image = example_image();
+        image.resize(length, 0);
+        frames.extend(frames_on(&image, &one_of_each()));
     }
     frames
 }

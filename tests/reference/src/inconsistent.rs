@@ -9,7 +9,8 @@ use crate::fields::{
 use crate::fixed::example_receiver;
 use crate::level::{energy, level, FAINTEST};
 use crate::limits::{
-    loud_road, tuned, way_of_square, Way, APART, FAR_STEPS, HALF_NEAREST, HALVES, NEAR_STEPS, ROOM,
+    loud_road, tuned, tuned_by_day, way_of_square, Way, APART, FAR_STEPS, HALF_NEAREST, HALVES,
+    NEAR_STEPS, ROOM,
 };
 use crate::probe::Frame;
 use crate::record::Record;
@@ -18,7 +19,7 @@ use crate::road::{
     SOURCE_HEIGHT,
 };
 use crate::stores::{fitting_record, frame_of, settled, slot_in};
-use crate::town::{road, traffic, Town, WIDE};
+use crate::town::{placing, road, traffic, Town, WIDE};
 
 /// What a source brings to a receiver; nothing where the pair is refused.
 fn brought(source: &Source, receiver: &Receiver) -> [i64; 3] {
@@ -53,6 +54,8 @@ pub(crate) fn high_sum(chance: &mut Chance) -> Frame {
     let slot = slot_in(chance, &book.sources, false);
     let mut source = town.source(chance);
     source.length = chance.between(1, 200);
+    let record = placing(chance, slot as i64, source);
+    let source = record.source().expect("a source is placed");
     let at = slot_in(chance, &book.accounts, true);
     if let Some(account) = &mut book.accounts[at] {
         let shares = brought(&source, &account.receiver);
@@ -66,7 +69,7 @@ pub(crate) fn high_sum(chance: &mut Chance) -> Frame {
         let sums = ample(chance);
         book.accounts[other] = Some(Account { receiver, sums });
     }
-    frame_of(&book, &Record::PlaceSource(slot as i64, source))
+    frame_of(&book, &record)
 }
 
 /// A distance at which a source of this length is too near, too far, too long or too loud,
@@ -147,6 +150,8 @@ pub(crate) fn bad_pair(chance: &mut Chance) -> Frame {
 /// A new source that meets a few receivers, of which some may refuse it.
 pub(crate) fn met_by_source(chance: &mut Chance) -> Frame {
     let source = meeting_road(chance);
+    let slot = chance.index(SOURCES) as i64;
+    let record = placing(chance, slot, source);
     let mut book = Book::cleared();
     for _ in 0..chance.between(1, 6) {
         let accepted = chance.one_in(2);
@@ -161,8 +166,7 @@ pub(crate) fn met_by_source(chance: &mut Chance) -> Frame {
             sums,
         });
     }
-    let slot = slot_in(chance, &book.sources, false);
-    frame_of(&book, &Record::PlaceSource(slot as i64, source))
+    frame_of(&book, &record)
 }
 
 /// A new receiver that meets a few sources, of which some may refuse it.
@@ -185,7 +189,7 @@ pub(crate) fn met_by_receiver(chance: &mut Chance) -> Frame {
 
 /// One pair in an otherwise empty book, the second party still to be placed, or the source
 /// to be withdrawn although the pair may be none that is accepted.
-fn lone_pair(chance: &mut Chance, receiver: Receiver, source: Source) -> Frame {
+fn lone_pair(chance: &mut Chance, receiver: Receiver, place: Record) -> Frame {
     let mut book = Book::cleared();
     let (r, s) = (chance.edge_in(&RECEIVER_SLOT), chance.edge_in(&SOURCE_SLOT));
     let sums = ample(chance);
@@ -194,11 +198,11 @@ fn lone_pair(chance: &mut Chance, receiver: Receiver, source: Source) -> Frame {
         book.accounts[r as usize] = Some(Account { receiver, sums });
     }
     if act != 1 {
-        book.sources[s as usize] = Some(source);
+        book.sources[s as usize] = place.source();
     }
     let record = match act {
         0 => Record::PlaceReceiver(r, receiver),
-        1 => Record::PlaceSource(s, source),
+        1 => place.with(&SOURCE_SLOT, s),
         _ => Record::WithdrawSource(s),
     };
     frame_of(&book, &record)
@@ -229,7 +233,8 @@ pub(crate) fn tight_square(chance: &mut Chance) -> Frame {
     let receiver = way.receiver(chance);
     let mut source = way.place(road(chance), &receiver);
     source.length = length;
-    lone_pair(chance, receiver, source)
+    let place = placing(chance, 0, source);
+    lone_pair(chance, receiver, place)
 }
 
 /// A pair of which one period's share level is just the loudest, or just above it.
@@ -245,8 +250,8 @@ pub(crate) fn faint_level(chance: &mut Chance) -> Frame {
     tuned_pair(chance, road, WIDE, [1, 0])
 }
 
-/// A pair tuned to the first level in two periods and to the second in the other one,
-/// each sometimes with a step of traffic less.
+/// A pair tuned to the first level in two periods and to the second in the other one, each
+/// sometimes with a step of traffic less; or to the second in one period by a daily figure.
 fn tuned_pair(chance: &mut Chance, road: Source, farthest: i64, levels: [i64; 2]) -> Frame {
     let way = Way {
         dx: chance.between(APART, farthest),
@@ -256,6 +261,10 @@ fn tuned_pair(chance: &mut Chance, road: Source, farthest: i64, levels: [i64; 2]
     let receiver = way.receiver(chance);
     let mut source = way.place(road, &receiver);
     let special = chance.index(3);
+    if chance.one_in(3) {
+        let daily = tuned_by_day(chance, source, &receiver, special, levels[1]);
+        return lone_pair(chance, receiver, Record::PlaceDaily(0, daily));
+    }
     for period in 0..3 {
         source.traffic[period] = traffic(chance);
         let level = levels[usize::from(period == special)];
@@ -263,7 +272,7 @@ fn tuned_pair(chance: &mut Chance, road: Source, farthest: i64, levels: [i64; 2]
             source.traffic[period].vehicles = vehicles - chance.between(0, 1);
         }
     }
-    lone_pair(chance, receiver, source)
+    lone_pair(chance, receiver, Record::PlaceSource(0, source))
 }
 
 /// A sum worth asking for: at, just above or just below the energy of a level.

@@ -2,28 +2,28 @@
 // A seed stands for one job; its remainder by the number of kinds says which kind it is.
 
 use crate::chance::Chance;
+use crate::daily::Daily;
 use crate::fields::{
-    widest, FARTHEST, HEIGHT, LENGTH, RECEIVERS, RECEIVER_FIELDS, RECEIVER_SLOT, SOURCES,
-    SOURCE_FIELDS, SOURCE_SLOT,
+    widest, CLASS, DTV, FARTHEST, HEIGHT, LENGTH, RECEIVERS, RECEIVER_SLOT, SOURCES, SOURCE_SLOT,
 };
 use crate::fixed::{example_receiver, one_of_each};
 use crate::limits::{
-    loud_road, trial_values, tuned, way_of_square, Way, APART, FAR_STEPS, HALF_NEAREST, HALVES,
-    NEAR_STEPS, PAPER_LENGTHS, PAPER_WAYS,
+    loud_road, trial_values, tuned, tuned_by_day, way_of_square, Way, APART, FAR_STEPS,
+    HALF_NEAREST, HALVES, NEAR_STEPS, PAPER_LENGTHS, PAPER_WAYS,
 };
 use crate::pieces::BUFFER;
 use crate::record::{
-    fields_of, kind_byte, kind_in, length_of, listed_kinds, spare_bits, unlisted_kinds, Record,
+    kind_byte, kind_in, length_of, listed_kinds, spare_bits, unlisted_kinds, Record,
 };
 use crate::road::{Receiver, Source, FARTHEST_SQUARE, LOUDEST, NEAREST_SQUARE};
-use crate::town::{road, traffic, Draft, Town, WIDE};
+use crate::town::{by_day, placing, road, traffic, Draft, Town, WIDE};
 
 /// What makes one kind of job.
 type Maker = fn(&mut Chance) -> Vec<u8>;
 
-const KINDS: [Maker; 17] = [
-    town, churn, crowd, late, near, far, long, loud, faint, fields, terms, sweep, twins, flipped,
-    leftover, unknown, noise,
+const KINDS: [Maker; 18] = [
+    town, churn, crowd, late, near, far, long, loud, faint, fields, terms, sweep, daily, twins,
+    flipped, leftover, unknown, noise,
 ];
 
 /// The job a seed stands for.
@@ -85,7 +85,7 @@ fn crowd(chance: &mut Chance) -> Vec<u8> {
             draft.put_if_taken(Record::PlaceReceiver(slot, town.receiver(chance)));
         }
         if slot < sources {
-            draft.put_if_taken(Record::PlaceSource(slot, town.source(chance)));
+            draft.put_if_taken(town.placing(chance, slot));
         }
     }
     draft.ask_all(chance);
@@ -101,7 +101,7 @@ fn late(chance: &mut Chance) -> Vec<u8> {
     let town = Town::of_width(chance, WIDE);
     let mut draft = Draft::default();
     for slot in 0..chance.between(1, 150) {
-        draft.put_if_taken(Record::PlaceSource(slot, town.source(chance)));
+        draft.put_if_taken(town.placing(chance, slot));
     }
     for _ in 0..chance.between(10, 120) {
         let slot = chance.between(0, 9);
@@ -118,22 +118,26 @@ fn late(chance: &mut Chance) -> Vec<u8> {
     draft.bytes
 }
 
-/// Puts a pair into slots of their own, in either order, asks and takes both away again.
+/// Tries a receiver with a source that is told in either way.
 fn try_pair(draft: &mut Draft, chance: &mut Chance, receiver: Receiver, source: Source) {
+    let place = placing(chance, 0, source);
+    try_placings(draft, chance, receiver, place);
+}
+
+/// Puts a receiver and what places a source into slots of their own, in either order, asks and
+/// takes both away again.
+fn try_placings(draft: &mut Draft, chance: &mut Chance, receiver: Receiver, place: Record) {
     let (r, s) = (chance.edge_in(&RECEIVER_SLOT), chance.edge_in(&SOURCE_SLOT));
-    let (first, second) = if chance.one_in(2) {
-        (
-            Record::PlaceReceiver(r, receiver),
-            Record::PlaceSource(s, source),
-        )
-    } else {
-        (
-            Record::PlaceSource(s, source),
-            Record::PlaceReceiver(r, receiver),
-        )
-    };
-    draft.put(first);
-    draft.put(second);
+    let mut places = [
+        Record::PlaceReceiver(r, receiver),
+        place.with(&SOURCE_SLOT, s),
+    ];
+    if chance.one_in(2) {
+        places.reverse();
+    }
+    for place in places {
+        draft.put(place);
+    }
     draft.put(Record::Ask(r));
     draft.put(Record::WithdrawSource(s));
     draft.put(Record::Ask(r));
@@ -238,12 +242,16 @@ fn some_way(chance: &mut Chance, farthest: i64) -> (Receiver, Way) {
     (way.receiver(chance), way)
 }
 
-/// Share levels around the loudest that is accepted, in one period or in all.
+/// Share levels around the loudest that is accepted, in one period or in all, or by a daily figure.
 fn loud(chance: &mut Chance) -> Vec<u8> {
     let mut draft = Draft::default();
     for _ in 0..60 {
         let (receiver, way) = some_way(chance, 900);
         let mut source = way.place(loud_road(chance), &receiver);
+        if chance.one_in(3) {
+            try_tuned_by_day(&mut draft, chance, receiver, source, LOUDEST + 1);
+            continue;
+        }
         let special = chance.between(0, 3) as usize;
         for period in 0..3 {
             source.traffic[period] = traffic(chance);
@@ -256,9 +264,22 @@ fn loud(chance: &mut Chance) -> Vec<u8> {
                 source.traffic[period].vehicles = vehicles - chance.between(0, 1);
             }
         }
-        try_pair(&mut draft, chance, receiver, source);
+        try_placings(&mut draft, chance, receiver, Record::PlaceSource(0, source));
     }
     draft.bytes
+}
+
+/// Tries a road by a daily figure that brings one period's share level to the given one.
+fn try_tuned_by_day(
+    draft: &mut Draft,
+    chance: &mut Chance,
+    receiver: Receiver,
+    road: Source,
+    level: i64,
+) {
+    let period = chance.index(3);
+    let daily = tuned_by_day(chance, road, &receiver, period, level);
+    try_placings(draft, chance, receiver, Record::PlaceDaily(0, daily));
 }
 
 /// Share levels around zero, below which a source adds nothing.
@@ -268,12 +289,17 @@ fn faint(chance: &mut Chance) -> Vec<u8> {
         let (receiver, way) = some_way(chance, WIDE);
         let mut source = way.place(road(chance), &receiver);
         source.length = chance.magnitude(300);
+        if chance.one_in(3) {
+            let level = chance.between(0, 1);
+            try_tuned_by_day(&mut draft, chance, receiver, source, level);
+            continue;
+        }
         for period in 0..3 {
             let level = chance.pick(&[-1, 0, 0, 1, 2, 700]);
             let vehicles = tuned(&source, &receiver, period, level).unwrap_or(0);
             source.traffic[period].vehicles = chance.pick(&[vehicles, vehicles, 0]);
         }
-        try_pair(&mut draft, chance, receiver, source);
+        try_placings(&mut draft, chance, receiver, Record::PlaceSource(0, source));
     }
     draft.bytes
 }
@@ -283,19 +309,19 @@ fn fields(chance: &mut Chance) -> Vec<u8> {
     let mut draft = Draft::default();
     let (receiver, way) = some_way(chance, 20_000);
     draft.put(Record::PlaceReceiver(0, receiver));
-    let base = way.place(road(chance), &receiver);
-    for field in &SOURCE_FIELDS[1..] {
-        for value in trial_values(chance, field, field.bits) {
-            let mut values = base.fields();
-            values[field.index()] = value;
-            try_source(&mut draft, Source::of_fields(values));
+    let source = way.place(road(chance), &receiver);
+    let daily = by_day(chance, source);
+    for place in [Record::PlaceSource(0, source), Record::PlaceDaily(0, daily)] {
+        for field in &place.fields()[1..] {
+            for value in trial_values(chance, field, field.bits) {
+                try_source(&mut draft, place.with(field, value));
+            }
         }
     }
-    for field in &RECEIVER_FIELDS[1..] {
+    let other = Record::PlaceReceiver(1, receiver);
+    for field in &other.fields()[1..] {
         for value in trial_values(chance, field, field.bits) {
-            let mut values = receiver.fields();
-            values[field.index()] = value;
-            try_receiver(&mut draft, Receiver::of_fields(values));
+            try_receiver(&mut draft, other.with(field, value));
         }
     }
     try_slots(&mut draft, chance);
@@ -305,24 +331,25 @@ fn fields(chance: &mut Chance) -> Vec<u8> {
 /// Puts one record of every kind on slots that may not be allowed.
 fn try_slots(draft: &mut Draft, chance: &mut Chance) {
     for record in one_of_each() {
-        let slot = &fields_of(record.kind()).expect("every record has a listed kind")[0];
+        let slot = &record.fields()[0];
         for value in trial_values(chance, slot, slot.bits) {
-            draft.put(record.with(0, value));
+            draft.put(record.with(slot, value));
         }
     }
 }
 
-/// Adds a source that may not be allowed, asks and takes it away.
-fn try_source(draft: &mut Draft, source: Source) {
-    draft.put(Record::PlaceSource(0, source));
+/// Places a source that may not be allowed, asks the first receiver and takes it away.
+fn try_source(draft: &mut Draft, place: Record) {
+    draft.put(place);
     draft.put(Record::Ask(0));
-    draft.put(Record::WithdrawSource(0));
+    draft.put(Record::WithdrawSource(place.slot()));
 }
 
-fn try_receiver(draft: &mut Draft, receiver: Receiver) {
-    draft.put(Record::PlaceReceiver(1, receiver));
-    draft.put(Record::Ask(1));
-    draft.put(Record::WithdrawReceiver(1));
+/// Places a receiver that may not be allowed, asks it and takes it away.
+fn try_receiver(draft: &mut Draft, place: Record) {
+    draft.put(place);
+    draft.put(Record::Ask(place.slot()));
+    draft.put(Record::WithdrawReceiver(place.slot()));
 }
 
 /// One road after the other before one receiver, each with every field anew.
@@ -333,7 +360,8 @@ fn terms(chance: &mut Chance) -> Vec<u8> {
         let (receiver, way) = some_way(chance, farthest);
         draft.put(Record::PlaceReceiver(0, receiver));
         for _ in 0..20 {
-            try_source(&mut draft, way.place(road(chance), &receiver));
+            let source = way.place(road(chance), &receiver);
+            try_source(&mut draft, placing(chance, 0, source));
         }
         draft.put(Record::WithdrawReceiver(0));
         farthest += farthest / 4;
@@ -347,33 +375,52 @@ fn sweep(chance: &mut Chance) -> Vec<u8> {
     let (receiver, way) = some_way(chance, 9_000);
     draft.put(Record::PlaceReceiver(0, receiver));
     for _ in 0..4 {
-        let base = way.place(road(chance), &receiver);
-        let field = chance.pick(&SOURCE_FIELDS[LENGTH.number.into()..]);
+        let source = way.place(road(chance), &receiver);
+        let base = placing(chance, 0, source);
+        let field = chance.pick(&base.fields()[LENGTH.number.into()..]);
         let most = widest(field.bits);
         for turn in 0..=255.min(most) {
-            let mut values = base.fields();
-            values[field.index()] = if most > 255 {
+            let value = if most > 255 {
                 chance.magnitude(most)
             } else {
                 turn
             };
-            try_source(&mut draft, Source::of_fields(values));
+            try_source(&mut draft, base.with(&field, value));
         }
     }
     draft.bytes
 }
 
-/// Equal sources in many slots, which all count, taken away one by one.
+/// A road by any class and daily figure, allowed or not, and then the same with its traffic told.
+fn daily(chance: &mut Chance) -> Vec<u8> {
+    let mut draft = Draft::default();
+    let (receiver, way) = some_way(chance, 9_000);
+    draft.put(Record::PlaceReceiver(0, receiver));
+    for class in CLASS.least()..=CLASS.most() {
+        for dtv in trial_values(chance, &DTV, DTV.bits) {
+            let road = way.place(road(chance), &receiver);
+            let daily = Daily::new(road, class, dtv);
+            try_source(&mut draft, Record::PlaceDaily(0, daily));
+            try_source(&mut draft, Record::PlaceSource(0, daily.source()));
+        }
+    }
+    draft.bytes
+}
+
+/// Equal sources in many slots, told in every way there is, which all count, taken away one by one.
 fn twins(chance: &mut Chance) -> Vec<u8> {
     let mut draft = Draft::default();
     let (receiver, way) = some_way(chance, 30_000);
     let source = way.place(road(chance), &receiver);
+    let place = placing(chance, 0, source);
+    let source = place.source().expect("a source is placed");
+    let ways = [place, Record::PlaceSource(0, source)];
     draft.put(Record::PlaceReceiver(9, receiver));
     let more = chance.between(1, 31);
     let first = chance.edge(0, SOURCE_SLOT.most() - more);
     let last = first + more;
     for slot in first..=last {
-        draft.put(Record::PlaceSource(slot, source));
+        draft.put(chance.pick(&ways).with(&SOURCE_SLOT, slot));
         draft.put(Record::Ask(9));
     }
     draft.put(Record::PlaceReceiver(8, receiver));

@@ -2,9 +2,10 @@
 // What lies on a limit is searched for, so that one step further lies beyond it.
 
 use crate::chance::Chance;
+use crate::daily::Daily;
 use crate::fields::{
-    widest, Field, CAR_SPEED, FARTHEST, GRADIENT, HEIGHT, LENGTH, MINUS, REFLECTION, STEEPEST,
-    TRUCK_SPEED, VEHICLES,
+    widest, Field, CAR_SPEED, CLASS, DTV, FARTHEST, GRADIENT, HEIGHT, LENGTH, MINUS, REFLECTION,
+    STEEPEST, TRUCK_SPEED, VEHICLES,
 };
 use crate::road::{
     emission, root, share_levels, Receiver, Source, Traffic, CAR_SPEEDS, FARTHEST_SQUARE,
@@ -175,13 +176,36 @@ fn level_with(source: &Source, receiver: &Receiver, period: usize, vehicles: i64
 /// The least traffic that lifts one period's share level to the given one, if any does.
 pub fn tuned(source: &Source, receiver: &Receiver, period: usize, level: i64) -> Option<i64> {
     let lifts = |vehicles| level_with(source, receiver, period, vehicles) >= Some(level);
-    let (mut low, mut high) = (0, VEHICLES.most());
-    if !lifts(high) {
+    least(VEHICLES.most(), lifts)
+}
+
+/// A road whose daily figure is just enough, or just not, to lift one period's share level to the
+/// given one; the greatest figure where none is enough.
+pub fn tuned_by_day(
+    chance: &mut Chance,
+    road: Source,
+    receiver: &Receiver,
+    period: usize,
+    level: i64,
+) -> Daily {
+    let class = chance.within(&CLASS);
+    let lifts = |dtv| {
+        let source = Daily::new(road, class, dtv).source();
+        share_levels(&source, &emission(&source), receiver)[period] >= Some(level)
+    };
+    let dtv = least(DTV.most(), lifts).map(|dtv| dtv - chance.between(0, 1));
+    Daily::new(road, class, dtv.unwrap_or(DTV.most()))
+}
+
+/// The least number above 0, up to the most there is, from which on something holds.
+fn least(most: i64, holds: impl Fn(i64) -> bool) -> Option<i64> {
+    let (mut low, mut high) = (0, most);
+    if !holds(high) {
         return None;
     }
     while high - low > 1 {
         let middle = (low + high) / 2;
-        if lifts(middle) {
+        if holds(middle) {
             high = middle;
         } else {
             low = middle;

@@ -1,7 +1,10 @@
 // Job records: reading them from bytes and writing them into bytes.
 // Bits run from the most significant; the bits after the last field are zero.
 
-use crate::fields::{Field, RECEIVER_FIELDS, RECEIVER_SLOT, SOURCE_FIELDS, SOURCE_SLOT};
+use crate::daily::{judge_daily, Daily};
+use crate::fields::{
+    Field, DAILY_FIELDS, RECEIVER_FIELDS, RECEIVER_SLOT, SOURCE_FIELDS, SOURCE_SLOT,
+};
 use crate::road::{judge_receiver, judge_slot, judge_source, refusal, Receiver, Refusal, Source};
 
 /// One record of a job, each with its slot.
@@ -12,6 +15,7 @@ pub enum Record {
     PlaceSource(i64, Source),
     WithdrawSource(i64),
     Ask(i64),
+    PlaceDaily(i64, Daily),
 }
 
 /// Bits of the kind that begins every record, and the kinds that they can say.
@@ -38,6 +42,7 @@ pub fn fields_of(kind: u8) -> Option<&'static [Field]> {
         2 | 5 => Some(&RECEIVER_FIELDS[..1]),
         3 => Some(&SOURCE_FIELDS),
         4 => Some(&SOURCE_FIELDS[..1]),
+        6 => Some(&DAILY_FIELDS),
         _ => None,
     }
 }
@@ -86,7 +91,13 @@ impl Record {
             Record::PlaceSource(..) => 3,
             Record::WithdrawSource(_) => 4,
             Record::Ask(_) => 5,
+            Record::PlaceDaily(..) => 6,
         }
+    }
+
+    /// The fields of its kind, slot first.
+    pub fn fields(&self) -> &'static [Field] {
+        fields_of(self.kind()).expect("every record has a listed kind")
     }
 
     /// Judges the fields: refusals 5, 6 and 7.
@@ -98,6 +109,9 @@ impl Record {
             Record::PlaceSource(slot, source) => {
                 judge_slot(*slot, &SOURCE_SLOT).and_then(|()| judge_source(source))
             }
+            Record::PlaceDaily(slot, daily) => {
+                judge_slot(*slot, &SOURCE_SLOT).and_then(|()| judge_daily(daily))
+            }
             Record::WithdrawReceiver(slot) | Record::Ask(slot) => judge_slot(*slot, &RECEIVER_SLOT),
             Record::WithdrawSource(slot) => judge_slot(*slot, &SOURCE_SLOT),
         }
@@ -106,10 +120,21 @@ impl Record {
     /// The slot.
     pub fn slot(&self) -> i64 {
         match self {
-            Record::PlaceReceiver(slot, _) | Record::PlaceSource(slot, _) => *slot,
+            Record::PlaceReceiver(slot, _)
+            | Record::PlaceSource(slot, _)
+            | Record::PlaceDaily(slot, _) => *slot,
             Record::WithdrawReceiver(slot) | Record::WithdrawSource(slot) | Record::Ask(slot) => {
                 *slot
             }
+        }
+    }
+
+    /// The source that it places, if it places one; a class must be allowed.
+    pub fn source(&self) -> Option<Source> {
+        match self {
+            Record::PlaceSource(_, source) => Some(*source),
+            Record::PlaceDaily(_, daily) => Some(daily.source()),
+            _ => None,
         }
     }
 
@@ -119,15 +144,16 @@ impl Record {
         match self {
             Record::PlaceReceiver(_, receiver) => values.extend(receiver.fields()),
             Record::PlaceSource(_, source) => values.extend(source.fields()),
+            Record::PlaceDaily(_, daily) => values.extend(daily.fields()),
             _ => {}
         }
         values
     }
 
-    /// The same record with another value of one field.
-    pub fn with(&self, at: usize, value: i64) -> Record {
+    /// The same record with another value of one of its fields.
+    pub fn with(&self, field: &Field, value: i64) -> Record {
         let mut values = self.values();
-        values[at] = value;
+        values[usize::from(field.number) - 1] = value;
         let mut values = values.into_iter();
         Record::of(self.kind(), |_| {
             values.next().expect("every field has a value")
@@ -148,16 +174,19 @@ impl Record {
                 Record::PlaceSource(slot, Source::of_fields(rest(&SOURCE_FIELDS, value)))
             }
             4 => Record::WithdrawSource(value(&SOURCE_SLOT)),
+            6 => {
+                let slot = value(&SOURCE_SLOT);
+                Record::PlaceDaily(slot, Daily::of_fields(rest(&DAILY_FIELDS, value)))
+            }
             _ => Record::Ask(value(&RECEIVER_SLOT)),
         }
     }
 
     /// The record's bytes without any judgement; of each field the lowest bits.
     pub fn bytes(&self) -> Vec<u8> {
-        let fields = fields_of(self.kind()).expect("every record has a listed kind");
         let mut packer = Packer::default();
         packer.put(i64::from(self.kind()), KIND_BITS);
-        for (value, field) in self.values().into_iter().zip(fields) {
+        for (value, field) in self.values().into_iter().zip(self.fields()) {
             packer.put(value, field.bits);
         }
         packer.finish()

@@ -149,16 +149,8 @@ impl Source {
         self.truck_speed.clamp(TRUCK_SPEEDS.0, TRUCK_SPEEDS.1)
     }
 
-    /// The first of the fields 2 to 19 that is not allowed.
-    fn first_wrong_field(&self) -> Option<u16> {
-        let fields = SOURCE_FIELDS[1..].iter();
-        let mut judged = fields.zip(self.fields());
-        let wrong = judged.find(|&(field, value)| !self.allows(field, value));
-        wrong.map(|(field, _)| field.number)
-    }
-
     /// Whether a field may have a value; without walls their sizes are 0.
-    fn allows(&self, field: &Field, value: i64) -> bool {
+    pub fn allows(&self, field: &Field, value: i64) -> bool {
         if self.walls == 0 && field.of_walls() {
             value == 0
         } else {
@@ -192,11 +184,24 @@ pub fn judge_slot(slot: i64, field: &Field) -> Result<(), Refusal> {
     }
 }
 
+/// Judges the values of the fields after the slot: refusal 5 for the first that is not allowed.
+pub fn judge_fields(
+    fields: &[Field],
+    values: &[i64],
+    allows: impl Fn(&Field, i64) -> bool,
+) -> Result<(), Refusal> {
+    let mut judged = fields[1..].iter().zip(values);
+    match judged.find(|&(field, &value)| !allows(field, value)) {
+        Some((field, _)) => Err(wrong_field(field.number)),
+        None => Ok(()),
+    }
+}
+
 /// Judges the fields 2 to 19 of a source: refusals 5, 6 and 7.
 pub fn judge_source(source: &Source) -> Result<(), Refusal> {
-    if let Some(place) = source.first_wrong_field() {
-        return Err(wrong_field(place));
-    }
+    judge_fields(&SOURCE_FIELDS, &source.fields(), |field, value| {
+        source.allows(field, value)
+    })?;
     if source.surface >= FAST_SURFACE && source.car_speed <= FAST_ABOVE {
         return Err(refusal(6));
     }
@@ -208,11 +213,7 @@ pub fn judge_source(source: &Source) -> Result<(), Refusal> {
 
 /// Judges the fields 2 to 4 of a receiver: refusal 5.
 pub fn judge_receiver(receiver: &Receiver) -> Result<(), Refusal> {
-    let mut judged = RECEIVER_FIELDS[1..].iter().zip(receiver.fields());
-    match judged.find(|&(field, value)| !field.allows(value)) {
-        Some((field, _)) => Err(wrong_field(field.number)),
-        None => Ok(()),
-    }
+    judge_fields(&RECEIVER_FIELDS, &receiver.fields(), Field::allows)
 }
 
 /// L25 of one period; none where nothing drives.

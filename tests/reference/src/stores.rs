@@ -5,7 +5,7 @@ use crate::book::{encode, Account, Book, TOP};
 use crate::chance::Chance;
 use crate::fields::{
     Field, CAR_SPEED, HEIGHT, RECEIVERS, RECEIVER_FIELDS, RECEIVER_SLOT, REFLECTION, SOURCES,
-    SOURCE_FIELDS, SOURCE_SLOT, SURFACE, TRUCKS, WALLS, WALL_HEIGHT, WALL_SPACING,
+    SOURCE_FIELDS, SOURCE_SLOT, SURFACE, WALLS, WALL_HEIGHT, WALL_SPACING,
 };
 use crate::fixed::sum_edges;
 use crate::inconsistent::{
@@ -15,12 +15,12 @@ use crate::inconsistent::{
 use crate::limits::trial_value;
 use crate::probe::{Frame, LONGEST_IMAGE, LONGEST_PIECE};
 use crate::record::{kind_byte, unlisted_kinds, Record};
-use crate::road::{Source, FAST_ABOVE, FAST_SURFACE};
+use crate::road::{FAST_ABOVE, FAST_SURFACE};
 use crate::store::{
     receiver_at, set_field, source_at, RECEIVERS_AT, RECEIVER_BYTES, RECEIVER_SIZE, SOURCE_BYTES,
     SOURCE_SIZE, STORE_SIZE, SUMS,
 };
-use crate::town::{road, Town, WIDE};
+use crate::town::{placing, road, Town, WIDE};
 
 /// What makes one kind of probe.
 type Maker = fn(&mut Chance) -> Frame;
@@ -116,7 +116,10 @@ pub(crate) fn fitting_record(chance: &mut Chance, town: &Town, book: &Book) -> R
     match chance.between(0, 7) {
         0 => Record::PlaceReceiver(receiver(chance, !fits), town.receiver(chance)),
         1 => Record::WithdrawReceiver(receiver(chance, fits)),
-        2 | 3 => Record::PlaceSource(source(chance, !fits), town.source(chance)),
+        2 | 3 => {
+            let slot = source(chance, !fits);
+            town.placing(chance, slot)
+        }
         4 | 5 => Record::WithdrawSource(source(chance, fits)),
         _ => Record::Ask(receiver(chance, fits)),
     }
@@ -185,35 +188,33 @@ fn disallowed(chance: &mut Chance) -> Frame {
     frame
 }
 
-/// The bytes of a source with one field, or two, or its surface, not allowed.
+/// The bytes of a source with one field, or its surface, or two of these, not allowed.
 fn broken_source(chance: &mut Chance) -> Vec<u8> {
-    let mut source = road(chance);
-    match chance.between(0, 15) {
-        0 => {
-            source.reflection = REFLECTION.most() + 1;
-            source.traffic[2].trucks = TRUCKS.most() + 1;
-        }
-        1..=5 => {
-            source.surface = chance.between(FAST_SURFACE, SURFACE.most());
-            source.car_speed = chance.between(CAR_SPEED.least(), FAST_ABOVE);
-        }
-        _ => source = past_an_edge(chance, source),
-    }
-    Record::PlaceSource(chance.within(&SOURCE_SLOT), source).bytes()
+    let (slot, road) = (chance.within(&SOURCE_SLOT), road(chance));
+    let place = placing(chance, slot, road);
+    let slow = place
+        .with(&SURFACE, chance.between(FAST_SURFACE, SURFACE.most()))
+        .with(&CAR_SPEED, chance.between(CAR_SPEED.least(), FAST_ABOVE));
+    let broken = match chance.between(0, 15) {
+        0 => past_an_edge(chance, place.with(&REFLECTION, REFLECTION.most() + 1)),
+        1 => past_an_edge(chance, slow),
+        2..=5 => slow,
+        _ => past_an_edge(chance, place),
+    };
+    broken.bytes()
 }
 
-/// The same source with one field just past what is allowed.
-fn past_an_edge(chance: &mut Chance, mut source: Source) -> Source {
+/// The same record with one field just past what is allowed.
+fn past_an_edge(chance: &mut Chance, mut place: Record) -> Record {
     let breakable = |field: &&Field| !field.outer_edges(field.bits).is_empty();
-    let fields: Vec<&Field> = SOURCE_FIELDS[1..].iter().filter(breakable).collect();
+    let fields: Vec<&Field> = place.fields()[1..].iter().filter(breakable).collect();
     let field = chance.pick(&fields);
     if field.of_walls() {
-        source.walls = WALLS.most();
-        (source.wall_height, source.wall_spacing) = (WALL_HEIGHT.most(), WALL_SPACING.most());
+        for walls in [WALLS, WALL_HEIGHT, WALL_SPACING] {
+            place = place.with(&walls, walls.most());
+        }
     }
-    let mut values = source.fields();
-    values[field.index()] = chance.pick(&field.outer_edges(field.bits));
-    Source::of_fields(values)
+    place.with(field, chance.pick(&field.outer_edges(field.bits)))
 }
 
 /// A state that never was a book's: bytes by chance, one byte throughout, or a few in a cleared one.

@@ -3,9 +3,11 @@
 
 use crate::book::{Answer, Book};
 use crate::chance::Chance;
+use crate::daily::Daily;
 use crate::fields::{
-    Field, CAR_SPEED, FARTHEST, HEIGHT, LANES, MINUS, RECEIVERS, RECEIVER_SLOT, REFLECTION,
-    SOURCES, STEEPEST, SURFACE, TRUCKS, TRUCK_SPEED, VEHICLES, WALLS, WALL_HEIGHT, WALL_SPACING,
+    Field, CAR_SPEED, CLASS, DTV, FARTHEST, HEIGHT, LANES, MINUS, RECEIVERS, RECEIVER_SLOT,
+    REFLECTION, SOURCES, STEEPEST, SURFACE, TRUCKS, TRUCK_SPEED, VEHICLES, WALLS, WALL_HEIGHT,
+    WALL_SPACING,
 };
 use crate::limits::TURNING_SPEEDS;
 use crate::record::Record;
@@ -71,6 +73,12 @@ impl Town {
         }
     }
 
+    /// A record that places a source, told in either way.
+    pub fn placing(&self, chance: &mut Chance, slot: i64) -> Record {
+        let source = self.source(chance);
+        placing(chance, slot, source)
+    }
+
     /// A record of any kind, on slots below the given counts.
     pub fn record(&self, chance: &mut Chance, sources: usize, receivers: usize) -> Record {
         let source_slot = slot(chance, sources, SOURCES);
@@ -78,7 +86,7 @@ impl Town {
         match chance.between(0, 19) {
             0..=2 => Record::PlaceReceiver(receiver_slot, self.receiver(chance)),
             3 => Record::WithdrawReceiver(receiver_slot),
-            4..=12 => Record::PlaceSource(source_slot, self.source(chance)),
+            4..=12 => self.placing(chance, source_slot),
             13..=14 => Record::WithdrawSource(source_slot),
             _ => Record::Ask(receiver_slot),
         }
@@ -164,6 +172,27 @@ pub fn road(chance: &mut Chance) -> Source {
         wall_height,
         wall_spacing,
         traffic: std::array::from_fn(|_| traffic(chance)),
+    }
+}
+
+/// A road with any class and daily figure in place of its traffic.
+pub fn by_day(chance: &mut Chance, road: Source) -> Daily {
+    let class = chance.within(&CLASS);
+    let dtv = match chance.between(0, 3) {
+        0 => chance.edge_in(&DTV),
+        1 => chance.magnitude(DTV.most()),
+        _ => chance.between(200, 40_000),
+    };
+    Daily::new(road, class, dtv)
+}
+
+/// A record that places a source as it is, or every third time with a daily figure in place of
+/// its traffic.
+pub fn placing(chance: &mut Chance, slot: i64, source: Source) -> Record {
+    if chance.one_in(3) {
+        Record::PlaceDaily(slot, by_day(chance, source))
+    } else {
+        Record::PlaceSource(slot, source)
     }
 }
 

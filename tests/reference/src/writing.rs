@@ -4,10 +4,10 @@
 use crate::book::Answer;
 use crate::chance::Chance;
 use crate::fields::{Field, RECEIVERS, RECEIVER_SLOT, SOURCES, SOURCE_FIELDS, SOURCE_SLOT};
-use crate::fixed::{one_of_each, surfaced_sources, trial_records};
+use crate::fixed::{one_of_each, surfaced_records, trial_records};
 use crate::limits::trial_values;
 use crate::probe::{front, head, number, Deed, LONGEST_PIECE};
-use crate::record::{fields_of, length_of, read, write, Record, LONGEST};
+use crate::record::{length_of, read, write, Record, LONGEST};
 use crate::town::Town;
 
 /// A call and the bytes there are for its record, all FF before.
@@ -46,6 +46,15 @@ pub fn bits_of(field: &Field) -> u32 {
     8 * bytes_of(field) as u32
 }
 
+/// What the bytes after the last field hold, which say nothing. Where a daily figure takes the place
+/// of traffic they are such that a program which took them for traffic is found out.
+fn filler(record: &Record) -> u8 {
+    match record {
+        Record::PlaceDaily(..) => 0xff,
+        _ => 0,
+    }
+}
+
 impl Writing {
     /// Adds the probe to what goes into a probing program.
     pub fn put(&self, out: &mut Vec<u8>) {
@@ -53,11 +62,10 @@ impl Writing {
         out.extend((self.room as u16).to_be_bytes());
         out.push(self.record.kind());
         let end = out.len() + SLOT + FIELDS;
-        let fields = fields_of(self.record.kind()).expect("every record has a listed kind");
-        for (value, field) in self.record.values().into_iter().zip(fields) {
+        for (value, field) in self.record.values().into_iter().zip(self.record.fields()) {
             out.extend(&value.to_be_bytes()[8 - bytes_of(field)..]);
         }
-        out.resize(end, 0);
+        out.resize(end, filler(&self.record));
     }
 
     /// Takes such a probe off the front; none where no whole one is left.
@@ -108,13 +116,12 @@ pub fn writing(seed: u64) -> Writing {
 
 /// The same record with its slot or a field at a limit, beyond it, or beyond what a record holds.
 fn changed(chance: &mut Chance, record: Record) -> Record {
-    let fields = fields_of(record.kind()).expect("every record has a listed kind");
-    let at = chance.index(fields.len());
-    let field = &fields[at];
+    let at = chance.index(record.fields().len());
+    let field = &record.fields()[at];
     let mut values = trial_values(chance, field, bits_of(field));
     values.push(record.values()[at]);
     let value = chance.pick(&values);
-    record.with(at, lifted(chance, value, field))
+    record.with(field, lifted(chance, value, field))
 }
 
 /// A value, or with a bit more than a record has, where the bytes leave room for it.
@@ -132,14 +139,7 @@ pub fn fixed_writings() -> Vec<Writing> {
     for record in one_of_each() {
         writings.extend((0..=LONGEST_PIECE).map(|room| Writing { record, room }));
     }
-    let mut records = trial_records(bits_of);
-    let last = SOURCE_SLOT.most();
-    records.extend(
-        surfaced_sources()
-            .into_iter()
-            .map(|source| Record::PlaceSource(last, source)),
-    );
-    for record in records {
+    for record in trial_records(bits_of).into_iter().chain(surfaced_records()) {
         writings.extend([0, LONGEST + 2].map(|room| Writing { record, room }));
     }
     writings

@@ -1,12 +1,14 @@
 // What the jobs and probes by chance meet: every refusal that there is, and more than once.
 // Number 7 is not among them: no allowed speeds make a truck quieter than a car.
 
-use reference::book::{decode, Answer};
+use reference::book::{decode, Answer, Book};
+use reference::fields::{Field, CAR_SPEED, SURFACE};
 use reference::fixed::{fixed_frames, fixed_jobs};
 use reference::jobs::job;
 use reference::listing::{list, Tally};
-use reference::record::read;
-use reference::road::Refusal;
+use reference::probe::Frame;
+use reference::record::{extent, fields_of, kind_in, listed_kinds, read, write, Record};
+use reference::road::{Refusal, FAST_ABOVE, FAST_SURFACE};
 use reference::stores::frame;
 use reference::writing::{fixed_writings, writing, Writing};
 
@@ -23,6 +25,108 @@ fn jobs_meet_every_refusal() {
     }
     assert_eq!(tally.refusals[7], 0);
     assert!(tally.asks >= 10_000);
+}
+
+/// The records of a job, each with its bytes or what is left of them.
+fn pieces(mut job: &[u8]) -> Vec<&[u8]> {
+    let mut pieces = Vec::new();
+    while !job.is_empty() {
+        let length = match extent(job) {
+            0 => job.len(),
+            length => length,
+        };
+        let (piece, rest) = job.split_at(length);
+        pieces.push(piece);
+        job = rest;
+    }
+    pieces
+}
+
+/// The same bytes, or those of the source that a daily figure stands for.
+fn told(piece: &[u8]) -> Vec<u8> {
+    match read(piece) {
+        Ok((Record::PlaceDaily(slot, daily), _)) => {
+            Record::PlaceSource(slot, daily.source()).bytes()
+        }
+        _ => piece.to_vec(),
+    }
+}
+
+#[test]
+fn jobs_with_daily_figures_are_those_with_the_traffic_told() {
+    let mut changed = 0;
+    for job in SEEDS.map(job).chain(fixed_jobs()) {
+        let other: Vec<u8> = pieces(&job).into_iter().flat_map(told).collect();
+        changed += u64::from(other != job);
+        let listings = [job, other].map(|job| {
+            let mut listing = Vec::new();
+            list(&job, &mut listing);
+            listing
+        });
+        assert_eq!(listings[0], listings[1]);
+    }
+    assert!(changed >= 400);
+}
+
+#[test]
+fn jobs_meet_every_refusal_of_a_daily_figure() {
+    let mut counts = [0; 14];
+    for job in SEEDS.map(job).chain(fixed_jobs()) {
+        let mut book = Book::cleared();
+        for piece in pieces(&job) {
+            let answer = match read(piece) {
+                Ok((record, _)) => book.apply(&record),
+                Err(refusal) => Answer::Refused(refusal),
+            };
+            if let (6, Answer::Refused(refusal)) = (kind_in(piece[0]), answer) {
+                counts[usize::from(refusal.number)] += 1;
+            }
+        }
+    }
+    for number in [2, 4, 5, 6, 8, 10, 11, 12, 13] {
+        assert!(counts[number] >= 20, "refusal {number}");
+    }
+}
+
+#[test]
+fn probes_with_daily_figures_are_those_with_the_traffic_told() {
+    let mut done = 0;
+    for mut frame in SEEDS.map(frame).chain(fixed_frames()) {
+        let before = frame.image.clone();
+        if let Ok((Record::PlaceDaily(slot, _), _)) = read(&frame.record) {
+            let mut other = Frame {
+                image: before.clone(),
+                record: told(&frame.record),
+            };
+            let answer = frame.call().answer;
+            assert_eq!((answer, &frame.image), (other.call().answer, &other.image));
+            if answer == Answer::Done {
+                done += 1;
+                frame.record = Record::WithdrawSource(slot).bytes();
+                assert_eq!(frame.call().answer, Answer::Done);
+                assert_eq!(frame.image, before);
+            }
+        }
+    }
+    assert!(done >= 50);
+}
+
+#[test]
+fn records_that_are_read_are_written_as_they_were() {
+    let mut kinds = [0; 16];
+    for job in SEEDS.map(job).chain(fixed_jobs()) {
+        for piece in pieces(&job) {
+            if let Ok((record, length)) = read(piece) {
+                kinds[usize::from(record.kind())] += 1;
+                let mut out = vec![0xff; length];
+                assert_eq!(write(&record, &mut out), Ok(length));
+                assert_eq!(out, piece);
+            }
+        }
+    }
+    assert!(listed_kinds()
+        .into_iter()
+        .all(|kind| kinds[usize::from(kind)] >= 1000));
 }
 
 #[test]
@@ -43,7 +147,7 @@ fn probes_meet_every_refusal() {
         assert!(counts[number] >= 3, "refusal {number}");
     }
     for (kind, met) in late.into_iter().enumerate() {
-        let possible = kind == 3 || kind == 4;
+        let possible = [3, 4, 6].contains(&kind);
         assert!(possible == (met >= 5), "late 1 of records of kind {kind}");
         assert!(possible || met == 0, "late 1 of records of kind {kind}");
     }
@@ -99,6 +203,33 @@ fn writings_meet_every_refusal_of_the_writer() {
         assert_eq!(possible, met > 0, "refusal {number}");
     }
     assert!(places.into_iter().skip(1).all(|met| met > 0));
+}
+
+/// Whether some fixed writing of a kind is refused for a field although other fields are wrong too.
+fn named_although(kind: u8, field: &Field, wrong: impl Fn(&Record) -> bool) -> bool {
+    let refusal = Refusal {
+        number: 5,
+        place: field.number,
+    };
+    let mut records = fixed_writings().into_iter().map(|writing| writing.record);
+    records.any(|record| record.kind() == kind && record.judge() == Err(refusal) && wrong(&record))
+}
+
+#[test]
+fn fixed_writings_of_sources_have_more_than_one_field_wrong() {
+    for kind in [3, 6] {
+        let fields = fields_of(kind).unwrap();
+        let value = |record: &Record, field: &Field| record.values()[usize::from(field.number) - 1];
+        for pair in fields.windows(2) {
+            let next_wrong = |record: &Record| !pair[1].allows(value(record, &pair[1]));
+            assert!(named_although(kind, &pair[0], next_wrong), "{pair:?}");
+        }
+        let slow = |record: &Record| {
+            let fast_surface = value(record, &SURFACE) >= FAST_SURFACE;
+            fast_surface && value(record, &CAR_SPEED) <= FAST_ABOVE
+        };
+        assert!(named_although(kind, &fields[fields.len() - 1], slow));
+    }
 }
 
 #[test]

@@ -3,7 +3,7 @@
 
 use reference::book::{decode, Book, TOP};
 use reference::chance::Chance;
-use reference::fields::{widest, Field, WALL_HEIGHT, WALL_SPACING};
+use reference::fields::{widest, Field};
 use reference::fixed::{fixed_frames, fixed_jobs};
 use reference::jobs::job;
 use reference::limits::{way_of_square, FAR_STEPS, HALVES, NEAR_STEPS};
@@ -50,26 +50,25 @@ fn edges_of(field: &Field, bits: u32) -> Vec<(i64, bool)> {
     edges
 }
 
-/// The sizes of walls where there are none: 0 is to be accepted and 1 to be refused.
-fn edges_without_walls() -> [Edge; 4] {
-    let [height, spacing] = [WALL_HEIGHT, WALL_SPACING].map(|size| size.number);
-    let edge = |number, value| (3, number, value, value == 0);
-    [
-        edge(height, 0),
-        edge(height, 1),
-        edge(spacing, 0),
-        edge(spacing, 1),
-    ]
+/// The edges of a size of walls where there are none: 0 is to be accepted and 1 to be refused.
+fn edges_without_walls(field: &Field) -> Vec<(i64, bool)> {
+    if field.of_walls() {
+        vec![(0, true), (1, false)]
+    } else {
+        Vec::new()
+    }
 }
 
 impl Missed {
     /// All edges of records of these kinds, where every field has so many bits.
     fn all(kinds: &[u8], bits: impl Fn(&Field) -> u32) -> Missed {
-        let mut edges = BTreeSet::from(edges_without_walls());
+        let mut edges = BTreeSet::new();
         for &kind in kinds {
             for field in fields_of(kind).unwrap() {
-                let of_field = edges_of(field, bits(field)).into_iter();
-                edges.extend(of_field.map(|(value, good)| (kind, field.number, value, good)));
+                let mut of_field = edges_of(field, bits(field));
+                of_field.extend(edges_without_walls(field));
+                let named = |(value, good)| (kind, field.number, value, good);
+                edges.extend(of_field.into_iter().map(named));
             }
         }
         Missed(edges)
@@ -296,9 +295,12 @@ impl Pairs {
     fn meet_record(&mut self, book: &Book, record: &Record) {
         match record {
             _ if record.judge().is_err() => {}
-            Record::PlaceSource(slot, source) if book.sources[*slot as usize].is_none() => {
+            Record::PlaceSource(slot, _) | Record::PlaceDaily(slot, _)
+                if book.sources[*slot as usize].is_none() =>
+            {
+                let source = record.source().unwrap();
                 let standing = book.accounts.iter().flatten();
-                standing.for_each(|account| self.meet(source, &account.receiver));
+                standing.for_each(|account| self.meet(&source, &account.receiver));
             }
             Record::PlaceReceiver(slot, receiver) if book.accounts[*slot as usize].is_none() => {
                 let standing = book.sources.iter().flatten();

@@ -2,9 +2,8 @@
 // Also what the rules say of refusals, on the smallest books that show it.
 
 use reference::book::{clear, decode, encode, Answer, Book, Levels, TOP};
-use reference::fields::{
-    Field, GRADIENT, HEIGHT, RECEIVERS, RECEIVER_FIELDS, SOURCES, SOURCE_FIELDS, SURFACE,
-};
+use reference::daily::Daily;
+use reference::fields::{Field, GRADIENT, HEIGHT, RECEIVERS, SOURCES, SURFACE};
 use reference::fixed::{example, example_receiver, example_source};
 use reference::level::{energy, entry, level, lv};
 use reference::listing::list;
@@ -192,7 +191,7 @@ fn quiet_and_faint_levels_in_the_listing() {
     let mut job = Record::PlaceReceiver(5, example_receiver()).bytes();
     job.extend(Record::PlaceSource(0, source).bytes());
     job.extend(Record::Ask(5).bytes());
-    job.push(0x60);
+    job.push(0x70);
     let mut listing = Vec::new();
     list(&job, &mut listing);
     assert_eq!(listing, b"3 R05 --.- --.-\n4 E03\nEND 4\n");
@@ -203,7 +202,7 @@ fn the_reader_says_the_lowest_number() {
     let number = |bytes: &[u8]| read(bytes).map_err(|refusal| (refusal.number, refusal.place));
     assert_eq!(number(&[]), Err((2, 0)));
     assert_eq!(number(&[0x11]), Err((2, 0)));
-    assert_eq!(number(&[0x61]), Err((3, 0)));
+    assert_eq!(number(&[0x71]), Err((3, 0)));
     assert_eq!(number(&[0x51, 0x41]), Err((4, 0)));
     let low = Receiver {
         height: HEIGHT.least() - 1,
@@ -258,6 +257,10 @@ const SOURCE_PAPER: [(u16, u32, i64, i64); 18] = [
     (19, 10, 0, 1000),
 ];
 
+/// How many of these a source by its daily figure has as well, and those of its own.
+const SHARED: usize = 12;
+const DAILY_PAPER: [(u16, u32, i64, i64); 2] = [(14, 2, 0, 3), (15, 18, 1, 160_000)];
+
 /// The same of a receiver.
 const RECEIVER_PAPER: [(u16, u32, i64, i64); 4] = [
     (1, 6, 0, 63),
@@ -268,27 +271,35 @@ const RECEIVER_PAPER: [(u16, u32, i64, i64); 4] = [
 
 /// Whether a record with one field at a value is refused for this field.
 fn named(record: &Record, number: u16, value: i64) -> bool {
-    let at = usize::from(number) - 1;
+    let field = record.fields()[usize::from(number) - 1];
     let mut book = Book::cleared();
-    book.apply(&record.with(at, value)) == Answer::Refused(refused(5, number).unwrap_err())
+    book.apply(&record.with(&field, value)) == Answer::Refused(refused(5, number).unwrap_err())
 }
 
 #[test]
 fn limits_are_those_on_paper() {
     let source = Record::PlaceSource(0, walled(1, 600, 1200));
+    let daily = Record::PlaceDaily(0, Daily::new(walled(1, 600, 1200), 1, 12_000));
     let receiver = Record::PlaceReceiver(0, example_receiver());
-    let sources = SOURCE_PAPER.map(|limits| (source, &SOURCE_FIELDS[..], limits));
-    let receivers = RECEIVER_PAPER.map(|limits| (receiver, &RECEIVER_FIELDS[..], limits));
-    for (record, fields, (number, bits, least, most)) in sources.into_iter().chain(receivers) {
-        let field = fields[usize::from(number) - 1];
-        assert_eq!((field.number, field.bits), (number, bits));
-        let refused = [least - 1, least, most, most + 1].map(|v| named(&record, number, v));
-        assert_eq!(refused, [true, false, false, true], "{}", field.name);
+    let daily_paper = [&SOURCE_PAPER[..SHARED], &DAILY_PAPER].concat();
+    for (record, paper) in [
+        (source, &SOURCE_PAPER[..]),
+        (daily, &daily_paper),
+        (receiver, &RECEIVER_PAPER),
+    ] {
+        for &(number, bits, least, most) in paper {
+            let field = record.fields()[usize::from(number) - 1];
+            assert_eq!((field.number, field.bits), (number, bits));
+            let refused = [least - 1, least, most, most + 1].map(|v| named(&record, number, v));
+            assert_eq!(refused, [true, false, false, true], "{}", field.name);
+        }
     }
-    let gradient = |value| named(&source, 9, value);
-    let refused = [-1, 0, 120, 121, 127, 128, 129, 248, 249].map(gradient);
-    let paper = [true, false, false, true, true, true, false, false, true];
-    assert_eq!((GRADIENT.bits, refused), (8, paper));
+    for record in [source, daily] {
+        let gradient = |value| named(&record, 9, value);
+        let refused = [-1, 0, 120, 121, 127, 128, 129, 248, 249].map(gradient);
+        let paper = [true, false, false, true, true, true, false, false, true];
+        assert_eq!((GRADIENT.bits, refused), (8, paper));
+    }
 }
 
 #[test]
@@ -321,7 +332,7 @@ fn slots_stand_before_the_other_fields() {
 #[test]
 fn sizes_come_out_as_on_paper() {
     let lengths: Vec<_> = listed_kinds().into_iter().map(length_of).collect();
-    assert_eq!(lengths, [9, 2, 30, 2, 2].map(Some));
+    assert_eq!(lengths, [9, 2, 30, 2, 2, 20].map(Some));
     assert_eq!((SOURCE_SIZE, RECEIVER_SIZE), (36, 33));
     assert_eq!((receiver_at(0), STORE_SIZE), (18_432, 20_544));
     assert_eq!(TOP, 512 * 10i64.pow(15));

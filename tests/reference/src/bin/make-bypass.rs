@@ -1,6 +1,7 @@
-// Prints the example job: a bypass that bends around a village, cut into sixty pieces.
+// Prints the example job: a bypass that bends around a village, cut into sixty pieces, and a side street.
 // One receiver is placed so near that a piece is too long for it (refusal 12), to show what a refusal looks like.
 
+use reference::daily::Daily;
 use reference::fields::HEIGHT;
 use reference::record::Record;
 use reference::road::{root, Receiver, Source, Traffic};
@@ -83,6 +84,21 @@ fn mirrored(number: i64) -> Source {
     }
 }
 
+/// A piece of a side street of the village, of which only the daily figure is known: a municipal
+/// street of 1500 vehicles a day, 50 km/h, mastic asphalt.
+fn street(number: i64) -> Daily {
+    let piece = Source {
+        x: 452_000 + 2000 * number,
+        y: 435_000,
+        length: 2000,
+        car_speed: 50,
+        truck_speed: 50,
+        surface: 1,
+        ..Source::default()
+    };
+    Daily::new(piece, 3, 1500)
+}
+
 fn job() -> Vec<Record> {
     let mut job = Vec::new();
     for (slot, receiver) in (0..).zip(receivers()) {
@@ -101,6 +117,9 @@ fn job() -> Vec<Record> {
     job.push(Record::PlaceReceiver(12, beside(30, 3_000, 400)));
     job.push(Record::WithdrawReceiver(11));
     job.push(Record::PlaceReceiver(11, beside(58, 4_500, 400)));
+    for number in 0..5 {
+        job.push(Record::PlaceDaily(1 + number, street(number)));
+    }
     job.extend((0..12).map(Record::Ask));
     job
 }
