@@ -8,6 +8,7 @@ use lib.Dec.{lit<}
 use lib.ListN.{length, drop, length-drop}
 use lib.Seq.{getD-drop, drop-cons}
 use Rattle.layout.specs.Layout.{size, packed, Within}
+use Rattle.layout.proofs.Packing.{within-append}
 use Rattle.road.specs.declared.Source.{Source}
 use Rattle.road.specs.declared.Verdict.the-variants.{Allowed}
 use Rattle.road.proofs.Fit.{source-within, receiver-within}
@@ -16,20 +17,16 @@ use Rattle.road.proofs.Rows as rows
 use Rattle.road.proofs.Rows.{upto, source-values-again}
 use Rattle.road.specs.Fields.{receiverTable, bitsBy, sourceTable}
 use Rattle.road.specs.Judge.{receiverFields, sourceVerdict, receiverVerdict}
+use Rattle.daily.specs.Daily.{dailyBits, dailyFields, dailyVerdict}
+use Rattle.daily.proofs.Laws.{daily-within}
 use Rattle.codec.specs.declared.Request.{Request}
-use Rattle.codec.specs.declared.Request.the-variants.{PlaceReceiver, WithdrawReceiver, PlaceSource, WithdrawSource, Ask}
+use Rattle.codec.specs.declared.Request.the-variants.{PlaceReceiver, WithdrawReceiver, PlaceSource, WithdrawSource, Ask, PlaceDaily}
 use Rattle.codec.specs.Record.{recordOf}
 use Rattle.codec.specs.Inner.{filled, firstOf}
 use Rattle.codec.proofs.Laws.{first-filled}
 use Rattle.codec.specs.Kinds.{lastNamedSource, lastNamedReceiver, at, kindAt, layoutOf, callIn, sourceIn, leftoverOf, verdictOf, kindNumber, fieldsOf, sourceWith}
 
 -- ---- an allowed call has fields that fit
-
-within-append : (ws vs xs ys : List ℕ) → Within ws vs → Within xs ys → Within (ws ++ xs) (vs ++ ys)
-within-append [] [] xs ys f g = g
-within-append [] (v ∷ vs) xs ys f g = absurd f
-within-append (w ∷ ws) [] xs ys f g = absurd f
-within-append (w ∷ ws) (v ∷ vs) xs ys f g = (f .0, within-append ws vs xs ys (f .1) g)
 
 pub call-within : (c : Request) (s : Source) → verdictOf c s ≡ Allowed → Within (layoutOf (kindNumber c)) (fieldsOf c s)
 unfolding kindAt verdictOf
@@ -43,6 +40,9 @@ call-within (PlaceSource slot) s e =
     (lit< tt, (omega (arith, a .0), source-within s (a .1)))
 call-within (WithdrawSource slot) s e = (lit< tt, (omega (arith, slot-allowed lastNamedSource slot Allowed e .0), (lit< tt, tt)))
 call-within (Ask slot) s e = (lit< tt, (omega (arith, slot-allowed lastNamedReceiver slot Allowed e .0), (lit< tt, tt)))
+call-within (PlaceDaily slot d) s e =
+    let a = slot-allowed lastNamedSource slot (dailyVerdict d s) e in
+    (lit< tt, (omega (arith, a .0), within-append dailyBits (dailyFields d s) (2 ∷ []) (0 ∷ []) (daily-within d s (a .1)) (lit< tt, tt)))
 
 -- ---- from a call to its fields and back
 
@@ -53,6 +53,7 @@ call-length (WithdrawReceiver slot) s = refl
 call-length (PlaceSource slot) s = refl
 call-length (WithdrawSource slot) s = refl
 call-length (Ask slot) s = refl
+call-length (PlaceDaily slot d) s = refl
 
 pub call-listed : (c : Request) → 0 < size (layoutOf (kindNumber c))
 unfolding kindAt
@@ -61,6 +62,7 @@ call-listed (WithdrawReceiver slot) = lit< tt
 call-listed (PlaceSource slot) = lit< tt
 call-listed (WithdrawSource slot) = lit< tt
 call-listed (Ask slot) = lit< tt
+call-listed (PlaceDaily slot d) = lit< tt
 
 pub call-kind : (c : Request) (s : Source) → at (fieldsOf c s) 0 ≡ kindNumber c
 call-kind (PlaceReceiver slot r) s = refl
@@ -68,6 +70,7 @@ call-kind (WithdrawReceiver slot) s = refl
 call-kind (PlaceSource slot) s = refl
 call-kind (WithdrawSource slot) s = refl
 call-kind (Ask slot) s = refl
+call-kind (PlaceDaily slot d) s = refl
 
 pub call-leftover : (c : Request) (s : Source) → leftoverOf (kindNumber c) (fieldsOf c s) ≡ 0
 unfolding kindAt
@@ -76,6 +79,7 @@ call-leftover (WithdrawReceiver slot) s = refl
 call-leftover (PlaceSource slot) s = refl
 call-leftover (WithdrawSource slot) s = refl
 call-leftover (Ask slot) s = refl
+call-leftover (PlaceDaily slot d) s = refl
 
 pub call-again : (c : Request) (s : Source) → callIn (kindNumber c) (fieldsOf c s) ≡ c
 unfolding kindAt
@@ -84,6 +88,7 @@ call-again (WithdrawReceiver slot) s = refl
 call-again (PlaceSource slot) s = refl
 call-again (WithdrawSource slot) s = refl
 call-again (Ask slot) s = refl
+call-again (PlaceDaily slot d) s = refl
 
 pub source-again : (c : Request) (s : Source) → length (s .traffic) ≡ 3 → sourceIn (kindNumber c) (fieldsOf c s) ≡ sourceWith c s
 unfolding kindAt
@@ -92,15 +97,17 @@ source-again (WithdrawReceiver slot) s h = refl
 source-again (PlaceSource slot) s h = rows.source-again s h
 source-again (WithdrawSource slot) s h = refl
 source-again (Ask slot) s h = refl
+source-again (PlaceDaily slot d) s h = refl
 
--- a source counts only beside PlaceSource
+-- a source counts only beside a call that places it
 pub verdict-with : (c : Request) (s : Source) → verdictOf c (sourceWith c s) ≡ verdictOf c s
-unfolding verdictOf
+unfolding verdictOf dailyVerdict
 verdict-with (PlaceReceiver slot r) s = refl
 verdict-with (WithdrawReceiver slot) s = refl
 verdict-with (PlaceSource slot) s = refl
 verdict-with (WithdrawSource slot) s = refl
 verdict-with (Ask slot) s = refl
+verdict-with (PlaceDaily slot d) s = refl
 
 -- ---- the fields of a call in the writer's array
 
@@ -125,7 +132,8 @@ kind-again (suc (suc zero)) slot v h = refl
 kind-again (suc (suc (suc zero))) slot v h = refl
 kind-again (suc (suc (suc (suc zero)))) slot v h = refl
 kind-again (suc (suc (suc (suc (suc zero))))) slot v h = refl
-kind-again (suc (suc (suc (suc (suc (suc k)))))) slot v h = absurd (omega arith)
+kind-again (suc (suc (suc (suc (suc (suc zero)))))) slot v h = refl
+kind-again (suc (suc (suc (suc (suc (suc (suc k))))))) slot v h = absurd (omega arith)
 
 -- n fields and the leftover bits, which are zero
 left-over : (n : ℕ) (v : List ℕ) → length v ≡ suc n → at v n ≡ 0 → upto (at v) n ++ (0 ∷ []) ≡ v
@@ -156,4 +164,5 @@ fields-again (suc (suc zero)) v h l e f = begun-over 2 v 0 l e f
 fields-again (suc (suc (suc zero))) v h l e f = begun 3 v (length sourceTable) l e (source-values-again (drop 2 v) (after 3 v (length sourceTable) l e))
 fields-again (suc (suc (suc (suc zero)))) v h l e f = begun-over 4 v 0 l e f
 fields-again (suc (suc (suc (suc (suc zero))))) v h l e f = begun-over 5 v 0 l e f
-fields-again (suc (suc (suc (suc (suc (suc k)))))) v h l e f = absurd (omega arith)
+fields-again (suc (suc (suc (suc (suc (suc zero)))))) v h l e f = begun-over 6 v (length dailyBits) l e f
+fields-again (suc (suc (suc (suc (suc (suc (suc k))))))) v h l e f = absurd (omega arith)

@@ -13,7 +13,7 @@ use lib.ListN.{length, getD, take, drop, replicate, set, length-append, length-m
 use lib.Seq.{getD-drop, take-at, drop-cons, set-at, take-suc, length-take-le, take-length, take-all}
 use lib.Pow.{pow-mono}
 use Rattle.layout.specs.Layout.{size, fields, Within, bits, num}
-use Rattle.layout.proofs.Packing.{within-length}
+use Rattle.layout.proofs.Packing.{within-length, within-at, within-front}
 use Rattle.layout.proofs.Laws.{length-fields, length-packed}
 use Rattle.answer.specs.declared.Refusal.{Refusal}
 use Rattle.answer.specs.declared.Refusal.the-variants.{CutShort, UnknownKind, Leftover}
@@ -81,12 +81,6 @@ joined-all a b f v i e h =
 
 -- ---- fields within their widths
 
-field-fits : (ws v : List ℕ) (i : ℕ) → Within ws v → i < length ws → at v i < 2 ^ at ws i
-field-fits [] v i w h = absurd (not-suc-le-zero h)
-field-fits (n ∷ ws) [] i w h = absurd w
-field-fits (n ∷ ws) (x ∷ v) zero w h = w .0
-field-fits (n ∷ ws) (x ∷ v) (suc i) w h = field-fits ws v i (w .1) (le-of-suc-le-suc h)
-
 -- the slot is there, and fits sixteen bits
 module _ (k : ℕ) (v : List ℕ) (h : 0 < size (layoutOf k)) (w : Within (layoutOf k) v) where
   pub slot-there : 1 < length v
@@ -95,7 +89,20 @@ module _ (k : ℕ) (v : List ℕ) (h : 0 < size (layoutOf k)) (w : Within (layou
   pub slot-fits : at v 1 < 65536
   slot-fits =
       let b = row-begun k h in
-      lt-of-lt-of-le (field-fits (layoutOf k) v 1 w (b .two)) (pow-mono {i = at (layoutOf k) 1} {j = 16} (b .slot))
+      lt-of-lt-of-le (within-at (layoutOf k) v 1 w (b .two)) (pow-mono {i = at (layoutOf k) 1} {j = 16} (b .slot))
+
+-- the fields that follow kind and slot are there, and fit
+pub part-within : (a b : ℕ) (ws v : List ℕ) → Within (a ∷ b ∷ ws) v → Within ws (drop 2 v)
+part-within a b ws [] w = absurd w
+part-within a b ws (x ∷ []) w = absurd (w .1)
+part-within a b ws (x ∷ y ∷ v) w = w .1 .1
+
+module _ (slot : ℕ) (ws left : List ℕ) where
+  pub part-there : (v : List ℕ) → Within (kindBits ∷ slot ∷ (ws ++ left)) v → 2 + length ws ≤ length v
+  part-there v w = omega (arith, within-length (kindBits ∷ slot ∷ (ws ++ left)) v w, length-append ws left)
+
+  pub part-fits : (v : List ℕ) → Within (kindBits ∷ slot ∷ (ws ++ left)) v → Within ws (take (length ws) (drop 2 v))
+  part-fits v w = within-front ws left (drop 2 v) (part-within kindBits slot (ws ++ left) v w)
 
 -- the fields of a table that follow kind and slot are there, and fit what the code makes of them
 pub table-fits : {A : Type 0} (t : List (Row A)) (slot : ℕ) (left v : List ℕ) → roomy t ≡ true → Within (kindBits ∷ slot ∷ (bitsBy t ++ left)) v
@@ -209,22 +216,25 @@ module _ (call : Request) (source : Source) (out : List ℕ) where
 
 -- ---- the kinds that the code does not name
 
-pub ask-else : (k slot : ℕ) (v : List ℕ) → (k ≡ 1 → ⊥) → (k ≡ 2 → ⊥) → (k ≡ 3 → ⊥) → (k ≡ 4 → ⊥) → kindAt k .call slot v ≡ Ask slot
+pub ask-else : (k slot : ℕ) (v : List ℕ) → (k ≡ 1 → ⊥) → (k ≡ 2 → ⊥) → (k ≡ 3 → ⊥) → (k ≡ 4 → ⊥) → (k ≡ 6 → ⊥)
+    → kindAt k .call slot v ≡ Ask slot
 unfolding kindAt
-ask-else zero slot v a b c d = refl
-ask-else (suc zero) slot v a b c d = absurd (a refl)
-ask-else (suc (suc zero)) slot v a b c d = absurd (b refl)
-ask-else (suc (suc (suc zero))) slot v a b c d = absurd (c refl)
-ask-else (suc (suc (suc (suc zero)))) slot v a b c d = absurd (d refl)
-ask-else (suc (suc (suc (suc (suc zero))))) slot v a b c d = refl
-ask-else (suc (suc (suc (suc (suc (suc k)))))) slot v a b c d = refl
+ask-else zero slot v a b c d e = refl
+ask-else (suc zero) slot v a b c d e = absurd (a refl)
+ask-else (suc (suc zero)) slot v a b c d e = absurd (b refl)
+ask-else (suc (suc (suc zero))) slot v a b c d e = absurd (c refl)
+ask-else (suc (suc (suc (suc zero)))) slot v a b c d e = absurd (d refl)
+ask-else (suc (suc (suc (suc (suc zero))))) slot v a b c d e = refl
+ask-else (suc (suc (suc (suc (suc (suc zero)))))) slot v a b c d e = absurd (e refl)
+ask-else (suc (suc (suc (suc (suc (suc (suc k))))))) slot v a b c d e = refl
 
-pub blank-else : (k : ℕ) (v : List ℕ) → (k ≡ 3 → ⊥) → kindAt k .source v ≡ blank
+pub blank-else : (k : ℕ) (v : List ℕ) → (k ≡ 3 → ⊥) → (k ≡ 6 → ⊥) → kindAt k .source v ≡ blank
 unfolding kindAt
-blank-else zero v a = refl
-blank-else (suc zero) v a = refl
-blank-else (suc (suc zero)) v a = refl
-blank-else (suc (suc (suc zero))) v a = absurd (a refl)
-blank-else (suc (suc (suc (suc zero)))) v a = refl
-blank-else (suc (suc (suc (suc (suc zero))))) v a = refl
-blank-else (suc (suc (suc (suc (suc (suc k)))))) v a = refl
+blank-else zero v a b = refl
+blank-else (suc zero) v a b = refl
+blank-else (suc (suc zero)) v a b = refl
+blank-else (suc (suc (suc zero))) v a b = absurd (a refl)
+blank-else (suc (suc (suc (suc zero)))) v a b = refl
+blank-else (suc (suc (suc (suc (suc zero))))) v a b = refl
+blank-else (suc (suc (suc (suc (suc (suc zero)))))) v a b = absurd (b refl)
+blank-else (suc (suc (suc (suc (suc (suc (suc k))))))) v a b = refl

@@ -4,8 +4,10 @@ use Rattle.road.specs.declared.Source.{Source}
 use Rattle.road.specs.declared.Verdict.the-variants as verdict
 use Rattle.road.specs.Judge.{receiverVerdict, sourceVerdict}
 use Rattle.road.proofs.Judged.{ByFields, source-by, receiver-by, slot-by}
+use Rattle.daily.specs.Daily.{dailyVerdict}
+use Rattle.daily.proofs.Laws.{daily-by}
 use Rattle.codec.specs.declared.Request.{Request}
-use Rattle.codec.specs.declared.Request.the-variants.{PlaceReceiver, WithdrawReceiver, PlaceSource, WithdrawSource, Ask}
+use Rattle.codec.specs.declared.Request.the-variants.{PlaceReceiver, WithdrawReceiver, PlaceSource, WithdrawSource, Ask, PlaceDaily}
 use Rattle.codec.specs.Kinds.{lastNamedSource, lastNamedReceiver, verdictOf}
 
 pub verdict-by : (call : Request) (source : Source) → ByFields (verdictOf call source)
@@ -15,3 +17,4 @@ verdict-by (WithdrawReceiver slot) s = slot-by lastNamedReceiver slot verdict.Al
 verdict-by (PlaceSource slot) s = slot-by lastNamedSource slot (sourceVerdict s) (source-by s)
 verdict-by (WithdrawSource slot) s = slot-by lastNamedSource slot verdict.Allowed tt
 verdict-by (Ask slot) s = slot-by lastNamedReceiver slot verdict.Allowed tt
+verdict-by (PlaceDaily slot d) s = slot-by lastNamedSource slot (dailyVerdict d s) (daily-by d s)

@@ -8,7 +8,7 @@ use native.Mathlib.Omega.{arith}
 use borrow.Author.Tests.{ltb-false, eqb-false, le-ltb, ne-eqb}
 use lib.Dec.{ltb}
 use lib.ListN.{length, take, drop, length-append}
-use Rattle.layout.specs.Layout.{size, bits, fields, packed, Bytes}
+use Rattle.layout.specs.Layout.{size, bits, fields, packed, Bytes, Within}
 use Rattle.layout.proofs.Numbers.{bytes-append, bytes-drop}
 use Rattle.layout.proofs.Laws.{length-fields, length-packed, packed-bytes, fields-packed, packed-fields, field-bits}
 use Rattle.answer.specs.declared.Refusal.{Refusal}
@@ -127,7 +127,7 @@ done-bytes verdict.Allowed bytes out t e = (refl, go (ltb (length out) (length b
     go false f = sym (ap (λ (x : Written × List ℕ). x .1) f)
 
 -- a whole record of a kind that has no leftover bit set is read by its fields
-read-fields : (k : ℕ) (t : List ℕ) → 0 < size (layoutOf k) → size (layoutOf k) ≤ length t → kindOf t ≡ k → leftoverOf k (fields (layoutOf k) t) ≡ 0
+pub read-fields : (k : ℕ) (t : List ℕ) → 0 < size (layoutOf k) → size (layoutOf k) ≤ length t → kindOf t ≡ k → leftoverOf k (fields (layoutOf k) t) ≡ 0
     → readOf t ≡ heard k (fields (layoutOf k) t)
 read-fields k t h l e z =
     let n : lengthOf t ≡ size (layoutOf k) = ap (λ (j : ℕ). size (layoutOf j)) e in
@@ -138,22 +138,31 @@ read-fields k t h l e z =
     sym (read-heard t cut (ne-eqb (lengthOf t) 0 known) (le-ltb 0 (leftoverOf (kindOf t) (valuesOf t)) (omega arith)))
     ∙ ap (λ (j : ℕ). heard j (fields (layoutOf j) t)) e
 
-pub read-written : (c : Request) (r : Source) (out t : List ℕ) → Bytes out → length (r .traffic) ≡ 3
-    → _≡_ {A = Written × List ℕ} (writeOf c r out) (written.Done, t) → readOf t ≡ reading (told.Request c) (sourceWith c r)
-unfolding writeOf recordOf
-read-written c r out t b h e =
+-- the record of a call whose fields fit is read as the call, if it is allowed
+pub read-record : (c : Request) (r : Source) (rest : List ℕ) → Within (layoutOf (kindNumber c)) (fieldsOf c r) → Bytes rest → length (r .traffic) ≡ 3
+    → readOf (recordOf c r ++ rest) ≡ heardBy c (sourceWith c r)
+unfolding recordOf
+read-record c r rest w b h =
     let k = kindNumber c in
     let v = fieldsOf c r in
     let p = packed (layoutOf k) v in
-    let d = done-bytes (verdictOf c r) p out t e in
-    let rest = drop (length p) out in
-    let f : fields (layoutOf k) t ≡ v = ap (fields (layoutOf k)) (d .1) ∙ fields-packed (layoutOf k) v rest (row-sized k) (call-within c r (d .0)) in
-    let l : size (layoutOf k) ≤ length t = omega (arith, ap length (d .1), length-append p rest, length-packed (layoutOf k) v) in
-    let y : Bytes t = subst Bytes (sym (d .1)) (bytes-append p rest (packed-bytes (layoutOf k) v) (bytes-drop (length p) out b)) in
+    let t = p ++ rest in
+    let f : fields (layoutOf k) t ≡ v = fields-packed (layoutOf k) v rest (row-sized k) w in
+    let l : size (layoutOf k) ≤ length t = omega (arith, length-append p rest, length-packed (layoutOf k) v) in
+    let y : Bytes t = bytes-append p rest (packed-bytes (layoutOf k) v) b in
     let n : kindOf t ≡ k = sym (kind-first k t (call-listed c) l y) ∙ ap (λ (x : List ℕ). at x 0) f ∙ call-kind c r in
     read-fields k t (call-listed c) l n (ap (leftoverOf k) f ∙ call-leftover c r)
     ∙ ap (heard k) f
     ∙ ap₂ heardBy (call-again c r) (source-again c r h)
+
+pub read-written : (c : Request) (r : Source) (out t : List ℕ) → Bytes out → length (r .traffic) ≡ 3
+    → _≡_ {A = Written × List ℕ} (writeOf c r out) (written.Done, t) → readOf t ≡ reading (told.Request c) (sourceWith c r)
+unfolding writeOf
+read-written c r out t b h e =
+    let p = recordOf c r in
+    let d = done-bytes (verdictOf c r) p out t e in
+    ap readOf (d .1)
+    ∙ read-record c r (drop (length p) out) (call-within c r (d .0)) (bytes-drop (length p) out b) h
     ∙ ap (λ (x : Verdict). judged x c (sourceWith c r)) (verdict-with c r ∙ d .0)
 
 -- ---- the part
@@ -176,7 +185,8 @@ kind-periods (suc (suc zero)) v = refl
 kind-periods (suc (suc (suc zero))) v = refl
 kind-periods (suc (suc (suc (suc zero)))) v = refl
 kind-periods (suc (suc (suc (suc (suc zero))))) v = refl
-kind-periods (suc (suc (suc (suc (suc (suc k)))))) v = refl
+kind-periods (suc (suc (suc (suc (suc (suc zero)))))) v = refl
+kind-periods (suc (suc (suc (suc (suc (suc (suc k))))))) v = refl
 
 judged-periods : (v : Verdict) (c : Request) (s : Source) → length (s .traffic) ≡ 3 → length (judged v c s .source .traffic) ≡ 3
 judged-periods verdict.Allowed c s e = e

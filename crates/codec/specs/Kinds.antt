@@ -9,8 +9,9 @@ use Rattle.road.specs.declared.Verdict.{Verdict}
 use Rattle.road.specs.declared.Verdict.the-variants.{Allowed}
 use Rattle.road.specs.Fields.{sourceTable, receiverTable, sourceOf, receiverOf, bitsBy}
 use Rattle.road.specs.Judge.{sourceFields, receiverFields, sourceVerdict, receiverVerdict, slotVerdict}
+use Rattle.daily.specs.Daily.{dailyBits, dailyFields, dailyOf, counted, dailyVerdict}
 use Rattle.codec.specs.declared.Request.{Request}
-use Rattle.codec.specs.declared.Request.the-variants.{PlaceReceiver, WithdrawReceiver, PlaceSource, WithdrawSource, Ask}
+use Rattle.codec.specs.declared.Request.the-variants.{PlaceReceiver, WithdrawReceiver, PlaceSource, WithdrawSource, Ask, PlaceDaily}
 
 -- ---- what every record begins with, in bits: its kind, and field 1, the slot of a source or of a receiver
 
@@ -61,6 +62,8 @@ kinds =
     ∷ kind sourceSlotBits [] (3 ∷ []) (λ slot v. WithdrawSource slot) (λ v. blank)
     -- 5: ask, 2 bytes
     ∷ kind receiverSlotBits [] (6 ∷ []) (λ slot v. Ask slot) (λ v. blank)
+    -- 6: place a source by its daily figure, 20 bytes
+    ∷ kind sourceSlotBits dailyBits (2 ∷ []) (λ slot v. PlaceDaily slot (dailyOf v)) (λ v. counted (dailyOf v) (sourceOf v))
     ∷ []
 
 -- the bytes of the longest record: 30
@@ -110,6 +113,7 @@ verdictOf (WithdrawReceiver slot) s = slotVerdict lastNamedReceiver slot Allowed
 verdictOf (PlaceSource slot) s = slotVerdict lastNamedSource slot (sourceVerdict s)
 verdictOf (WithdrawSource slot) s = slotVerdict lastNamedSource slot Allowed
 verdictOf (Ask slot) s = slotVerdict lastNamedReceiver slot Allowed
+verdictOf (PlaceDaily slot d) s = slotVerdict lastNamedSource slot (dailyVerdict d s)
 
 -- its kind
 abbrev pub kindNumber : Request → ℕ
@@ -118,6 +122,7 @@ kindNumber (WithdrawReceiver slot) = 2
 kindNumber (PlaceSource slot) = 3
 kindNumber (WithdrawSource slot) = 4
 kindNumber (Ask slot) = 5
+kindNumber (PlaceDaily slot d) = 6
 
 -- its kind, its fields, and its leftover bits, which are zero
 abbrev pub fieldsOf : Request → Source → List ℕ
@@ -126,11 +131,13 @@ fieldsOf (WithdrawReceiver slot) s = 2 ∷ slot ∷ 0 ∷ []
 fieldsOf (PlaceSource slot) s = 3 ∷ slot ∷ sourceFields s
 fieldsOf (WithdrawSource slot) s = 4 ∷ slot ∷ 0 ∷ []
 fieldsOf (Ask slot) s = 5 ∷ slot ∷ 0 ∷ []
+fieldsOf (PlaceDaily slot d) s = 6 ∷ slot ∷ (dailyFields d s ++ (0 ∷ []))
 
--- the source that goes with it
+-- the source that goes with it: by a daily figure, the one that it stands for
 abbrev pub sourceWith : Request → Source → Source
 sourceWith (PlaceReceiver slot r) s = blank
 sourceWith (WithdrawReceiver slot) s = blank
 sourceWith (PlaceSource slot) s = s
 sourceWith (WithdrawSource slot) s = blank
 sourceWith (Ask slot) s = blank
+sourceWith (PlaceDaily slot d) s = counted d s

@@ -23,7 +23,7 @@ const SOURCE_SLOT_BITS: u8 = 9;
 const RECEIVER_SLOT_BITS: u8 = 6;
 
 // The widths in bits of one kind after the other: the kind itself, its fields, and its leftover bits where there are any.
-const WIDTHS: [u8; 35] = [
+const WIDTHS: [u8; 52] = [
     // 1: place receiver
     KIND_BITS,
     RECEIVER_SLOT_BITS,
@@ -64,40 +64,61 @@ const WIDTHS: [u8; 35] = [
     KIND_BITS,
     RECEIVER_SLOT_BITS,
     6,
+    // 6: place a source by its daily figure
+    KIND_BITS,
+    SOURCE_SLOT_BITS,
+    fields::SOURCE[0][fields::BITS] as u8,
+    fields::SOURCE[1][fields::BITS] as u8,
+    fields::SOURCE[2][fields::BITS] as u8,
+    fields::SOURCE[3][fields::BITS] as u8,
+    fields::SOURCE[4][fields::BITS] as u8,
+    fields::SOURCE[5][fields::BITS] as u8,
+    fields::SOURCE[6][fields::BITS] as u8,
+    fields::SOURCE[7][fields::BITS] as u8,
+    fields::SOURCE[8][fields::BITS] as u8,
+    fields::SOURCE[9][fields::BITS] as u8,
+    fields::SOURCE[10][fields::BITS] as u8,
+    fields::SOURCE[11][fields::BITS] as u8,
+    daily::CLASS_BITS,
+    daily::DTV_BITS,
+    2,
 ];
 
 // How many widths a kind has. Here and below the first row is for no kind. (Bytes: a table is laid out anew at every use.)
-const COUNT: [u8; 6] = [
+const COUNT: [u8; 7] = [
     0,
     3 + fields::RECEIVER_ROWS as u8,
     3,
     2 + fields::SOURCE_ROWS as u8,
     3,
     3,
+    3 + FIGURES as u8,
 ];
 
 // Where its widths start among them.
-const START: [u8; 6] = [
+const START: [u8; 7] = [
     0,
     0,
     COUNT[1],
     COUNT[1] + COUNT[2],
     COUNT[1] + COUNT[2] + COUNT[3],
     COUNT[1] + COUNT[2] + COUNT[3] + COUNT[4],
+    COUNT[1] + COUNT[2] + COUNT[3] + COUNT[4] + COUNT[5],
 ];
 
 // How many fields.
-const FIELDS: [u8; 6] = [
+const FIELDS: [u8; 7] = [
     0,
     1 + fields::RECEIVER_ROWS as u8,
     1,
     1 + fields::SOURCE_ROWS as u8,
     1,
     1,
+    1 + FIGURES as u8,
 ];
 
 // How many bytes.
-const BYTES: [u8; 6] = [0, 9, 2, 30, 2, 2];
+const BYTES: [u8; 7] = [0, 9, 2, 30, 2, 2, 20];
 
 // The last slots that their bits can name, however many slots a book has.
 const LAST_NAMED_SOURCE: u16 = (1 << SOURCE_SLOT_BITS) - 1;
@@ -106,6 +127,9 @@ const LAST_NAMED_RECEIVER: u16 = (1 << RECEIVER_SLOT_BITS) - 1;
 
 // Where the fields after the slot start among the numbers of a record.
 const FIRST: usize = 2;
+
+// How many a road has with its daily figure.
+const FIGURES: usize = fields::ROAD_ROWS + daily::DAILY_ROWS;
 
 // The sizes of a kind's layout.
 pub struct Shape {
@@ -116,9 +140,9 @@ pub struct Shape {
 
 // The row of a kind.
 fn row(kind: usize) -> usize
-    ensures { λ r. ⌜ (kindAt r ≡ kindAt kind) × (r < 6) ⌝ }
+    ensures { λ r. ⌜ (kindAt r ≡ kindAt kind) × (r < 7) ⌝ }
 {
-    if kind < 6 {
+    if kind < 7 {
         return kind;
     }
     0
@@ -147,7 +171,7 @@ pub fn shape_of(kind: usize) -> Shape
 }
 
 // The widths of all kinds, to be lent to `layout_of`.
-pub fn widths() -> [u8; 35]
+pub fn widths() -> [u8; 52]
     ensures { λ r. ⌜ r ≡ allWidths ⌝ }
 {
     WIDTHS
@@ -177,6 +201,7 @@ pub fn call(kind: usize, v: &[u64]) -> Request
         2 => Request::WithdrawReceiver(slot),
         3 => Request::PlaceSource(slot),
         4 => Request::WithdrawSource(slot),
+        6 => Request::PlaceDaily(slot, daily::daily_of(&v[FIRST..FIRST + FIGURES])),
         _ => Request::Ask(slot),
     }
 }
@@ -204,6 +229,9 @@ pub fn verdict(steps: &[u32; 1000], call: Request, source: Source) -> Verdict
             Verdict::Allowed,
         ),
         Request::Ask(slot) => judge::judge_slot(LAST_NAMED_RECEIVER, slot, Verdict::Allowed),
+        Request::PlaceDaily(slot, d) => {
+            judge::judge_slot(LAST_NAMED_SOURCE, slot, daily::judge(steps, d, source))
+        }
     }
 }
 
@@ -217,6 +245,7 @@ pub fn number(call: Request) -> usize
         Request::PlaceSource(_) => 3,
         Request::WithdrawSource(_) => 4,
         Request::Ask(_) => 5,
+        Request::PlaceDaily(_, _) => 6,
     }
 }
 
@@ -235,6 +264,9 @@ pub fn source(kind: usize, v: &[u64]) -> Source
 {
     if kind == 3 {
         return fields::source_of(v, FIRST);
+    }
+    if kind == 6 {
+        return daily::source_of(&v[FIRST..FIRST + FIGURES]);
     }
     blank()
 }
@@ -255,7 +287,7 @@ fn join(kind: u64, slot: u16, fields: &[u64]) -> [u64; 25]
     v
 }
 
-// The kind, the fields and the leftover bits of a call, with zeros after them. A receiver's leftover bits are the first of these.
+// The kind, the fields and the leftover bits of a call, with zeros after them. Leftover bits may be the first of these.
 pub fn fields_of(call: Request, source: Source) -> [u64; 25]
     ensures { λ r. ⌜ r ≡ filled (fieldsOf call source) ⌝ }
 {
@@ -272,5 +304,9 @@ pub fn fields_of(call: Request, source: Source) -> [u64; 25]
         }
         Request::WithdrawSource(slot) => join(4, slot, &leftover),
         Request::Ask(slot) => join(5, slot, &leftover),
+        Request::PlaceDaily(slot, d) => {
+            let fields = daily::values(d, source);
+            join(6, slot, &fields[..FIGURES])
+        }
     }
 }

@@ -3,6 +3,7 @@
 mod kinds;
 
 use answer::Refusal;
+use daily::Daily;
 use road::Receiver;
 use road::Source;
 use road::Verdict;
@@ -16,13 +17,14 @@ ghost use Rattle.codec.specs.Kinds.{layoutOf};
 ghost use Rattle.codec.specs.Inner.{filled, firstOf};
 ghost use Rattle.codec.specs.Record.{kindOf, extentOf, refused, heard, readOf, writeOf};
 
-// What a record asks for; the number is the slot. The road of PlaceSource stands beside the call, since it holds an array.
+// What a record asks for; the number is the slot. The road of PlaceSource and PlaceDaily stands beside the call, since it holds an array.
 pub enum Request {
     PlaceReceiver(u16, Receiver),
     WithdrawReceiver(u16),
     PlaceSource(u16),
     WithdrawSource(u16),
     Ask(u16),
+    PlaceDaily(u16, Daily),
 }
 
 // What a reading tells: a call, or why there is none.
@@ -31,7 +33,7 @@ pub enum Told {
     Refused(Refusal),
 }
 
-// A reading. The source is the road of PlaceSource, and all zero otherwise.
+// A reading. The source is the road of PlaceSource, or the one that PlaceDaily stands for; all zero otherwise.
 pub struct Reading {
     pub told: Told,
     pub source: Source,

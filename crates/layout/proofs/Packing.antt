@@ -1,10 +1,10 @@
 -- Packing fields into a number and taking them out again, over any list of widths. Assumes nothing.
-use Prim.Native.Nat.{ℕ, suc, _+_, _*_, _/_, _%_, _^_, _<_}
+use Prim.Native.Nat.{ℕ, zero, suc, _+_, _*_, _/_, _%_, _^_, _<_}
 use mathlib.Core.Path.{_≡_, refl, sym, ap, ap₂, _∙_}
 use mathlib.Core.List.{List, [], _∷_, _++_}
-use native.Mathlib.Nat.{mod-lt, mod-eq-of-lt, mod-one, zero-mod, zero-div, mul-assoc, add-assoc, add-comm, add-mul, zero-mul, mul-add-div-right, mul-add-mod-self-right}
+use native.Mathlib.Nat.{not-suc-le-zero, le-of-suc-le-suc, mod-lt, mod-eq-of-lt, mod-one, zero-mod, zero-div, mul-assoc, add-assoc, add-comm, add-mul, zero-mul, mul-add-div-right, mul-add-mod-self-right}
 use native.Mathlib.Omega.{arith}
-use lib.ListN.{length, replicate}
+use lib.ListN.{length, getD, take, replicate}
 use lib.Arith.{digits-lt}
 use lib.Pow.{pow-pos, pow-add, high, shr-shr, mod-pow-add}
 use Rattle.layout.specs.Layout.{sum, pack, unpack, Within}
@@ -18,6 +18,23 @@ within-length [] [] fit = refl
 within-length [] (v ∷ vs) fit = absurd fit
 within-length (w ∷ ws) [] fit = absurd fit
 within-length (w ∷ ws) (v ∷ vs) fit = ap suc (within-length ws vs (fit .1))
+
+pub within-append : (ws vs xs ys : List ℕ) → Within ws vs → Within xs ys → Within (ws ++ xs) (vs ++ ys)
+within-append [] [] xs ys f g = g
+within-append [] (v ∷ vs) xs ys f g = absurd f
+within-append (w ∷ ws) [] xs ys f g = absurd f
+within-append (w ∷ ws) (v ∷ vs) xs ys f g = (f .0, within-append ws vs xs ys (f .1) g)
+
+pub within-front : (ws xs vs : List ℕ) → Within (ws ++ xs) vs → Within ws (take (length ws) vs)
+within-front [] xs vs f = tt
+within-front (w ∷ ws) xs [] f = absurd f
+within-front (w ∷ ws) xs (v ∷ vs) f = (f .0, within-front ws xs vs (f .1))
+
+pub within-at : (ws vs : List ℕ) (i : ℕ) → Within ws vs → i < length ws → getD vs i 0 < 2 ^ getD ws i 0
+within-at [] vs i f h = absurd (not-suc-le-zero h)
+within-at (w ∷ ws) [] i f h = absurd f
+within-at (w ∷ ws) (v ∷ vs) zero f h = f .0
+within-at (w ∷ ws) (v ∷ vs) (suc i) f h = within-at ws vs i (f .1) (le-of-suc-le-suc h)
 
 pub length-unpack : (ws : List ℕ) (n : ℕ) → length (unpack ws n) ≡ length ws
 length-unpack [] n = refl

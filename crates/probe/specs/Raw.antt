@@ -6,8 +6,9 @@ use lib.ListN.{getD}
 use Rattle.road.specs.declared.Receiver.{Receiver}
 use Rattle.road.specs.declared.Traffic.{Traffic}
 use Rattle.road.specs.declared.Source.{Source}
+use Rattle.daily.specs.declared.Daily.{Daily}
 use Rattle.codec.specs.declared.Request.{Request}
-use Rattle.codec.specs.declared.Request.the-variants.{PlaceReceiver, WithdrawReceiver, PlaceSource, WithdrawSource, Ask}
+use Rattle.codec.specs.declared.Request.the-variants.{PlaceReceiver, WithdrawReceiver, PlaceSource, WithdrawSource, Ask, PlaceDaily}
 
 abbrev pub one : List ℕ → ℕ → ℕ
 one s i = getD s i 0
@@ -42,8 +43,13 @@ rawSource s =
 abbrev pub rawReceiver : List ℕ → Receiver
 rawReceiver s = record { x = four s 3; y = four s 7; height = two s 11 }
 
-unfoldable pub callBy : ℕ → ℕ → Receiver → Request
-callBy kind slot r = getD (Ask slot ∷ PlaceReceiver slot r ∷ WithdrawReceiver slot ∷ PlaceSource slot ∷ WithdrawSource slot ∷ []) kind (Ask slot)
+-- in place of the traffic: what follows, too, the source beside the call takes for traffic, and nobody looks at it
+abbrev pub rawDaily : List ℕ → Daily
+rawDaily s = record { class = one s 26; dtv = four s 27 }
+
+unfoldable pub callBy : ℕ → ℕ → Receiver → Daily → Request
+callBy kind slot r d =
+    getD (Ask slot ∷ PlaceReceiver slot r ∷ WithdrawReceiver slot ∷ PlaceSource slot ∷ WithdrawSource slot ∷ Ask slot ∷ PlaceDaily slot d ∷ []) kind (Ask slot)
 
 abbrev pub callAt : List ℕ → Request
-callAt s = callBy (one s 0) (two s 1) (rawReceiver s)
+callAt s = callBy (one s 0) (two s 1) (rawReceiver s) (rawDaily s)

@@ -1,5 +1,6 @@
-// A call as 44 bytes: the kind, the slot (two bytes), and the fields of a source or a receiver, each as wide as its type.
+// A call as 44 bytes: the kind, the slot (two bytes), and the fields, each as wide as its type. A daily figure stands where traffic would.
 // So calls can be told that no record holds. A kind that is not listed is an ask.
+use daily::Daily;
 use record::Request;
 use road::Receiver;
 use road::Source;
@@ -91,6 +92,14 @@ fn receiver(raw: &[u8; 44]) -> Receiver
     Receiver { x, y, height }
 }
 
+fn daily(raw: &[u8; 44]) -> Daily
+    ensures { λ r. ⌜ r ≡ spec.rawDaily (now (raw .entry)) ⌝ }
+{
+    let class = raw[26];
+    let dtv = four(raw, 27);
+    Daily { class, dtv }
+}
+
 pub fn of(raw: &[u8; 44]) -> Request
     ensures { λ r. ⌜ r ≡ spec.callAt (now (raw .entry)) ⌝ }
 {
@@ -101,6 +110,7 @@ pub fn of(raw: &[u8; 44]) -> Request
         2 => Request::WithdrawReceiver(slot),
         3 => Request::PlaceSource(slot),
         4 => Request::WithdrawSource(slot),
+        6 => Request::PlaceDaily(slot, daily(raw)),
         _ => Request::Ask(slot),
     }
 }

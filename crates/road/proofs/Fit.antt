@@ -31,7 +31,7 @@ passed true r v e = absurd (let z : _≡_ {A = ℕ} 0 1 = cc in omega arith)
 passed false r v e = (refl, e)
 
 module _ {A : Type 0} (t : List (Row A)) (a : A) (v : Verdict) (e : unlessOutside t a v ≡ Allowed) where
-  past : (ltb (outsideBy t a) (length t) ≡ false) × (v ≡ Allowed)
+  pub past : (ltb (outsideBy t a) (length t) ≡ false) × (v ≡ Allowed)
   past = passed (ltb (outsideBy t a) (length t)) (Field (numberAt t (outsideBy t a))) v e
 
   -- each field has its bounds

@@ -1,21 +1,23 @@
 -- What a search among the fields says of the verdict, what an allowed slot is, and that a verdict is refused 5, 6 or 7 and no other.
 -- Assumes nothing.
-use Prim.Native.Nat.{ℕ, _+_, _≤_, _<_}
-use mathlib.Core.Path.{_≡_, refl, ap, subst}
+use Prim.Native.Nat.{ℕ, zero, suc, _+_, _≤_, _<_}
+use mathlib.Core.Path.{_≡_, refl, sym, ap, _∙_, subst}
 use mathlib.Core.Logic.{_≢_}
 use mathlib.Core.Bool.{Bool, true, false, cond}
-use mathlib.Core.List.{List}
+use mathlib.Core.List.{List, [], _∷_, _++_}
+use native.Mathlib.Nat.{not-suc-le-zero, le-of-suc-le-suc}
 use native.Mathlib.Omega.{arith}
-use borrow.Author.Tests.{lt-ltb, le-ltb, leb-true}
+use borrow.Author.Tests.{lt-ltb, le-ltb, ltb-true, leb-true}
 use lib.Dec.{ltb, leb}
-use lib.ListN.{length}
+use lib.ListN.{length, length-append}
+use Rattle.layout.specs.Bounds.{allowed, onwards}
 use Rattle.answer.specs.declared.Refusal.the-variants.{Damaged, Field, SlowSurface, QuietTruck}
 use Rattle.answer.specs.Table.{numberOf, Between}
 use Rattle.road.specs.declared.Source.{Source}
 use Rattle.road.specs.declared.Receiver.{Receiver}
 use Rattle.road.specs.declared.Verdict.{Verdict}
 use Rattle.road.specs.declared.Verdict.the-variants.{Allowed, Refused}
-use Rattle.road.specs.Fields.{Row, numberAt, sourceTable, receiverTable}
+use Rattle.road.specs.Fields.{Row, numberAt, roadTable, trafficTable, sourceTable, receiverTable}
 use Rattle.road.specs.Judge.{outsideBy, unlessOutside, slowSurface, quietTruck, sourceVerdict, receiverVerdict, slotVerdict}
 
 -- ---- the first field outside its limits is refused, and none leaves the rest to be judged
@@ -30,6 +32,41 @@ module _ {A : Type 0} (t : List (Row A)) (a : A) (v : Verdict) (at : ℕ) (e : a
   inside h =
       let k : length t ≤ outsideBy t a = omega arith in
       rw (le-ltb (outsideBy t a) (length t) k) refl
+
+-- the rows of the road are the first of a source's: they have the same numbers, and a field of the road that is outside is refused
+-- before any other of the source
+number-front : {A : Type 0} (t u : List (Row A)) (i : ℕ) → i < length t → numberAt (t ++ u) i ≡ numberAt t i
+number-front [] u i h = absurd (not-suc-le-zero h)
+number-front (r ∷ t) u zero h = refl
+number-front (r ∷ t) u (suc i) h = number-front t u i (le-of-suc-le-suc h)
+
+onwards-front : (b : Bool) (m n l : ℕ) → (n < l → m ≡ n) → onwards b n < suc l → onwards b m ≡ onwards b n
+onwards-front true m n l e h = ap suc (e (le-of-suc-le-suc h))
+onwards-front false m n l e h = refl
+
+front-outside : {A : Type 0} (t u : List (Row A)) (a : A) → outsideBy t a < length t → outsideBy (t ++ u) a ≡ outsideBy t a
+front-outside [] u a h = absurd (not-suc-le-zero h)
+front-outside (r ∷ t) u a h =
+    onwards-front (allowed (r .least a) (r .most a) (r .value a)) (outsideBy (t ++ u) a) (outsideBy t a) (length t) (front-outside t u a) h
+
+front-first : {A : Type 0} (t u : List (Row A)) (a : A) (v : Verdict)
+    → unlessOutside t a (unlessOutside (t ++ u) a v) ≡ unlessOutside (t ++ u) a v
+front-first t u a v = go (ltb (outsideBy t a) (length t)) refl
+  where
+    go : (b : Bool) → ltb (outsideBy t a) (length t) ≡ b
+        → cond b (Refused (Field (numberAt t (outsideBy t a)))) (unlessOutside (t ++ u) a v) ≡ unlessOutside (t ++ u) a v
+    go true e =
+        let h : outsideBy t a < length t = ltb-true (outsideBy t a) (length t) e in
+        ap (λ (n : ℕ). Refused (Field n)) (sym (number-front t u (outsideBy t a) h))
+        ∙ outside (t ++ u) a v (outsideBy t a) (sym (front-outside t u a h)) (omega (arith, length-append t u))
+    go false e = refl
+
+pub road-first : (s : Source) → unlessOutside roadTable s (sourceVerdict s) ≡ sourceVerdict s
+unfolding sourceVerdict
+road-first s = front-first roadTable trafficTable s _
+
+pub number-road : (i : ℕ) → i < length roadTable → numberAt sourceTable i ≡ numberAt roadTable i
+number-road i h = number-front roadTable trafficTable i h
 
 -- ---- a slot that is allowed
 
@@ -50,7 +87,7 @@ either-by : (t : Bool) (v w : Verdict) → ByFields v → ByFields w → ByField
 either-by true v w m n = m
 either-by false v w m n = n
 
-outside-by : {A : Type 0} (t : List (Row A)) (a : A) (v : Verdict) → ByFields v → ByFields (unlessOutside t a v)
+pub outside-by : {A : Type 0} (t : List (Row A)) (a : A) (v : Verdict) → ByFields v → ByFields (unlessOutside t a v)
 outside-by t a v n = either-by (ltb (outsideBy t a) (length t)) (Refused (Field (numberAt t (outsideBy t a)))) v (omega arith, omega arith) n
 
 pub source-by : (s : Source) → ByFields (sourceVerdict s)

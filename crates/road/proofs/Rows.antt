@@ -38,11 +38,23 @@ spelled (x ∷ v) = ap (λ (l : List ℕ). x ∷ l) (spelled v)
 pub all-of : (n : ℕ) (v : List ℕ) → length v ≡ n → upto (λ i. getD v i 0) n ≡ v
 all-of n v h = ap (upto (λ i. getD v i 0)) (sym h) ∙ spelled v
 
+-- of a longer list too
+pub upto-take : (n : ℕ) (v : List ℕ) → upto (λ i. getD (take n v) i 0) n ≡ upto (λ i. getD v i 0) n
+upto-take zero v = refl
+upto-take (suc n) [] = refl
+upto-take (suc n) (x ∷ v) = ap (λ (l : List ℕ). x ∷ l) (upto-take n v)
+
 pub source-values-again : (v : List ℕ) → length v ≡ length sourceTable → valuesBy sourceTable (sourceOf v) ≡ v
 source-values-again v h = all-of (length sourceTable) v h
 
 pub receiver-values-again : (v : List ℕ) → length v ≡ length receiverTable → valuesBy receiverTable (receiverOf v) ≡ v
 receiver-values-again v h = all-of (length receiverTable) v h
+
+-- values that fit are those of what has them
+pub within-upto : (ws more v : List ℕ) → Within (ws ++ more) v → Within ws (upto (λ i. getD v i 0) (length ws))
+within-upto [] more v f = tt
+within-upto (w ∷ ws) more [] f = absurd f
+within-upto (w ∷ ws) more (x ∷ v) f = (f .0, within-upto ws more v (f .1))
 
 -- ---- the numbers of the code's rows
 

@@ -42,6 +42,9 @@ source-values-settled l a = settled _ _
 receiver-values-settled : SettlesResult proofs.fields.receiver_values.Reads.Post
 receiver-values-settled l a = settled _ _
 
+road-of-settled : SettlesResult proofs.fields.road_of.Reads.Post
+road-of-settled l a = settled _ _
+
 source-of-settled : SettlesResult proofs.fields.source_of.Reads.Post
 source-of-settled l a = settled _ _
 
@@ -50,6 +53,9 @@ receiver-of-settled l a = settled _ _
 
 judge-source-settled : SettlesResult proofs.judge.judge_source.Reads.Post
 judge-source-settled l a = settled _ _
+
+judge-road-settled : SettlesResult proofs.judge.judge_road.Reads.Post
+judge-road-settled l a = settled _ _
 
 judge-receiver-settled : SettlesResult proofs.judge.judge_receiver.Reads.Post
 judge-receiver-settled l a = settled _ _

@@ -2,7 +2,7 @@
 -- slot of the store, its value, and its limits. Records, slots and verdicts are made from these two tables.
 use Prim.Native.Nat.{ℕ, suc, _+_, _*_, _^_, _<_}
 use mathlib.Core.Bool.{cond}
-use mathlib.Core.List.{List, [], _∷_, map}
+use mathlib.Core.List.{List, [], _∷_, _++_, map}
 use lib.ListN.{getD, replicate, length}
 use lib.Dec.{ltb, eqb}
 use Rattle.road.specs.declared.Traffic.{Traffic}
@@ -43,8 +43,9 @@ byFall up down s = cond (ltb (s .gradient) sign) up down
 abbrev pub ifWalls : ℕ → Source → ℕ
 ifWalls n s = cond (eqb (s .walls) 0) 0 n
 
-abbrev pub sourceTable : List (Row Source)
-sourceTable =
+-- what the road is like
+abbrev pub roadTable : List (Row Source)
+roadTable =
     -- number, bits, bytes, value, least, most
     row 2 24 3 (λ s. s .x) 0 coordinate
     ∷ row 3 24 3 (λ s. s .y) 0 coordinate
@@ -58,14 +59,21 @@ sourceTable =
     ∷ row 11 2 1 (λ s. s .walls) 0 lastWalls
     ∷ rowBy 12 12 2 (λ s. s .height) (ifWalls 1) (ifWalls highestWall)
     ∷ rowBy 13 14 2 (λ s. s .spacing) (ifWalls 1) (ifWalls widestSpacing)
-    -- by day, in the evening and at night
-    ∷ row 14 24 3 (λ s. period s 0 .m) 0 mostVehicles
+    ∷ []
+
+-- and its traffic by day, in the evening and at night
+abbrev pub trafficTable : List (Row Source)
+trafficTable =
+    row 14 24 3 (λ s. period s 0 .m) 0 mostVehicles
     ∷ row 15 10 2 (λ s. period s 0 .p) 0 allTrucks
     ∷ row 16 24 3 (λ s. period s 1 .m) 0 mostVehicles
     ∷ row 17 10 2 (λ s. period s 1 .p) 0 allTrucks
     ∷ row 18 24 3 (λ s. period s 2 .m) 0 mostVehicles
     ∷ row 19 10 2 (λ s. period s 2 .p) 0 allTrucks
     ∷ []
+
+abbrev pub sourceTable : List (Row Source)
+sourceTable = roadTable ++ trafficTable
 
 abbrev pub receiverTable : List (Row Receiver)
 receiverTable =
@@ -96,6 +104,10 @@ sourceOf v =
       spacing = getD v 11 0;
       traffic = trafficOf (getD v 12 0) (getD v 13 0) ∷ trafficOf (getD v 14 0) (getD v 15 0) ∷ trafficOf (getD v 16 0) (getD v 17 0) ∷ [];
     }
+
+-- the road alone, without traffic
+abbrev pub roadOf : List ℕ → Source
+roadOf v = sourceOf (map (λ (r : Row Source). r .value (sourceOf v)) roadTable)
 
 abbrev pub receiverOf : List ℕ → Receiver
 receiverOf v = record { x = getD v 0 0; y = getD v 1 0; height = getD v 2 0 }

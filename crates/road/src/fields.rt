@@ -8,12 +8,14 @@ use crate::limits;
 ghost use mathlib.Core.Path.{_≡_};
 ghost use mathlib.Core.Bool.{cond};
 ghost use mathlib.Core.List.{[]};
-ghost use Prim.Native.Nat.{_+_, _≤_};
-ghost use lib.ListN.{length, drop};
-ghost use Rattle.road.specs.Fields.{sourceTable, receiverTable, sourceOf, receiverOf, valuesBy, leastBy, mostBy, slotBitsBy, rowsBy, plain, Fit};
+ghost use Prim.Native.Nat.{_+_, _^_, _≤_, _<_};
+ghost use lib.ListN.{length, getD, drop};
+ghost use Rattle.road.specs.Fields.{roadTable, sourceTable, receiverTable, trafficOf, sourceOf, roadOf, receiverOf, valuesBy, leastBy, mostBy, slotBitsBy, rowsBy, plain, Fit};
 
-// How many fields a source has, and a receiver, beside the slot.
-pub const SOURCE_ROWS: usize = 18;
+// How many fields a source has beside the slot, those of the road first and then those of its traffic; and a receiver.
+pub const ROAD_ROWS: usize = 12;
+
+pub const SOURCE_ROWS: usize = ROAD_ROWS + 6;
 
 pub const RECEIVER_ROWS: usize = 3;
 
@@ -175,24 +177,13 @@ pub fn receiver_values(r: Receiver) -> [u64; RECEIVER_ROWS]
     [r.x as u64, r.y as u64, r.height as u64]
 }
 
-// The source of the values at the front of v.
-fn source_by(v: &[u64]) -> Source
-    requires { ⌜ (length sourceTable ≤ length (now v)) × Fit (slotBitsBy sourceTable) 0 (now v) ⌝ }
-    ensures { λ r. ⌜ r ≡ sourceOf (now (v .entry)) ⌝ }
+// The road of the values at the front of v, without traffic.
+pub fn road_of(v: &[u64]) -> Source
+    requires { ⌜ (length roadTable ≤ length (now v)) × Fit (slotBitsBy roadTable) 0 (now v) ⌝ }
+    ensures { λ r. ⌜ r ≡ roadOf (now (v .entry)) ⌝ }
 {
-    let day = Traffic {
-        m: v[12] as u32,
-        p: v[13] as u16,
-    };
-    let evening = Traffic {
-        m: v[14] as u32,
-        p: v[15] as u16,
-    };
-    let night = Traffic {
-        m: v[16] as u32,
-        p: v[17] as u16,
-    };
-    let traffic = [day, evening, night];
+    let none = Traffic { m: 0, p: 0 };
+    let traffic = [none, none, none];
     Source {
         x: v[0] as u32,
         y: v[1] as u32,
@@ -208,6 +199,29 @@ fn source_by(v: &[u64]) -> Source
         spacing: v[11] as u16,
         traffic,
     }
+}
+
+// The traffic of one period, its M at index at and its p after it.
+fn traffic_of(v: &[u64], at: usize) -> Traffic
+    requires { ⌜ (at + 2 ≤ length (now v)) × (getD (now v) at 0 < 2 ^ 32) × (getD (now v) (at + 1) 0 < 2 ^ 16) ⌝ }
+    ensures { λ r. ⌜ r ≡ trafficOf (getD (now (v .entry)) at 0) (getD (now (v .entry)) (at + 1) 0) ⌝ }
+{
+    let m = v[at] as u32;
+    let p = v[at + 1] as u16;
+    Traffic { m, p }
+}
+
+// The source of the values at the front of v.
+fn source_by(v: &[u64]) -> Source
+    requires { ⌜ (length sourceTable ≤ length (now v)) × Fit (slotBitsBy sourceTable) 0 (now v) ⌝ }
+    ensures { λ r. ⌜ r ≡ sourceOf (now (v .entry)) ⌝ }
+{
+    let day = traffic_of(v, 12);
+    let evening = traffic_of(v, 14);
+    let night = traffic_of(v, 16);
+    let mut s = road_of(v);
+    s.traffic = [day, evening, night];
+    s
 }
 
 // The source of the values from index at on.

@@ -10,8 +10,8 @@ ghost use mathlib.Core.Path.{_≡_};
 ghost use Prim.Native.Nat.{_<_};
 ghost use lib.ListN.{length};
 ghost use Rattle.level.specs.Table.{table};
-ghost use Rattle.road.specs.Fields.{sourceTable, receiverTable, numberAt};
-ghost use Rattle.road.specs.Judge.{sourceVerdict, receiverVerdict, slotVerdict, quietTruck};
+ghost use Rattle.road.specs.Fields.{roadTable, sourceTable, receiverTable, numberAt};
+ghost use Rattle.road.specs.Judge.{unlessOutside, sourceVerdict, receiverVerdict, slotVerdict, quietTruck};
 
 // Whether the trucks are quieter than the cars.
 fn quiet_truck(steps: &[u32; 1000], s: Source) -> bool
@@ -63,6 +63,22 @@ pub fn judge_source(steps: &[u32; 1000], s: Source) -> Verdict
         return Verdict::Refused(Refusal::QuietTruck);
     }
     Verdict::Allowed
+}
+
+// Whether the fields of a road, without its traffic, and then what else is judged are allowed.
+pub fn judge_road(s: Source, other: Verdict) -> Verdict
+    ensures { λ v. ⌜ v ≡ unlessOutside roadTable s other ⌝ }
+{
+    let values = fields::source_values(s);
+    let least = fields::source_least(s);
+    let most = fields::source_most(s);
+    let n = fields::ROAD_ROWS;
+    let at = layout::first_outside(&least[..n], &most[..n], &values[..n]);
+    if at < n {
+        let number = source_number(at);
+        return Verdict::Refused(Refusal::Field(number));
+    }
+    other
 }
 
 // Whether the fields of a receiver are allowed.

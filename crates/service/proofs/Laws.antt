@@ -34,6 +34,7 @@ real (request.WithdrawReceiver slot) s e = tt
 real (request.PlaceSource slot) s e = e
 real (request.WithdrawSource slot) s e = tt
 real (request.Ask slot) s e = tt
+real (request.PlaceDaily slot d) s e = e
 
 abbrev at : Outcome → ℕ → Deed
 at o n = record { outcome = o; extent = n }
@@ -47,6 +48,7 @@ module _ (job store : List ℕ) where
   answer-damaged (told.Request (request.PlaceSource i)) s d = on-damaged (placeSource i s) store d
   answer-damaged (told.Request (request.WithdrawSource i)) s d = on-damaged (withdrawSource i) store d
   answer-damaged (told.Request (request.Ask j)) s d = on-damaged (askReceiver j) store d
+  answer-damaged (told.Request (request.PlaceDaily i f)) s d = on-damaged (placeSource i s) store d
 
   pub on-damage : damaged store ≡ true → deed (told.Refused Damaged) (extentOf job) (answer.Refused Damaged, store) ≡ doneTo job store
   unfolding doneTo

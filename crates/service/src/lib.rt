@@ -36,6 +36,7 @@ fn slot(call: Request) -> u16
         Request::PlaceSource(slot) => slot,
         Request::WithdrawSource(slot) => slot,
         Request::Ask(slot) => slot,
+        Request::PlaceDaily(slot, _) => slot,
     }
 }
 
@@ -61,6 +62,7 @@ fn perform(steps: &[u32; 1000], store: &mut [u8], call: Request, source: Source)
         Request::PlaceSource(slot) => undamaged::place_source(steps, store, slot, source),
         Request::WithdrawSource(slot) => undamaged::withdraw_source(steps, store, slot),
         Request::Ask(slot) => undamaged::ask(steps, store, slot),
+        Request::PlaceDaily(slot, _) => undamaged::place_source(steps, store, slot, source),
     }
 }
 

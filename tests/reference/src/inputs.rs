@@ -1,7 +1,10 @@
 // The inputs that the programs job and probe are tried on each time they are built.
 // The files stdin of their crates hold just these bytes, and stdout what has to come of them.
 
-use crate::fields::{FARTHEST, HEIGHT, RECEIVERS, RECEIVER_SLOT, SOURCE_SLOT, VEHICLES};
+use crate::daily::Daily;
+use crate::fields::{
+    CLASS, DTV, FARTHEST, HEIGHT, RECEIVERS, RECEIVER_SLOT, SOURCE_SLOT, VEHICLES,
+};
 use crate::fixed::{example, example_receiver, example_source};
 use crate::probe::Frame;
 use crate::record::{kind_byte, Record, LONGEST};
@@ -32,6 +35,10 @@ fn place_receiver() -> Record {
 
 fn place_source() -> Record {
     Record::PlaceSource(0, example_source())
+}
+
+fn place_daily(class: i64, dtv: i64) -> Record {
+    Record::PlaceDaily(0, Daily::new(example_source(), class, dtv))
 }
 
 fn frame(image: &[u8], record: &[u8]) -> Frame {
@@ -77,7 +84,7 @@ fn writing(record: Record, room: usize) -> Writing {
 }
 
 /// Calls to write, with more room than the record takes, just enough, and too little.
-fn writings() -> [Writing; 12] {
+fn writings() -> [Writing; 15] {
     let receiver = |receiver| Record::PlaceReceiver(5, receiver);
     let far = Receiver {
         x: FARTHEST + 1 + example_receiver().x,
@@ -112,6 +119,10 @@ fn writings() -> [Writing; 12] {
         writing(Record::PlaceSource(0, busy), LONGEST),
         writing(Record::WithdrawSource(SOURCE_SLOT.most()), ask),
         writing(Record::WithdrawReceiver(RECEIVER_SLOT.most()), ask),
+        // a daily figure, and a class and a figure past the last
+        writing(place_daily(CLASS.most(), DTV.most()), LONGEST),
+        writing(place_daily(CLASS.most() + 1, DTV.most() + 1), LONGEST),
+        writing(place_daily(CLASS.most(), DTV.most() + 1), LONGEST),
     ]
 }
 

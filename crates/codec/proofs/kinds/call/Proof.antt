@@ -2,16 +2,20 @@
 -- Assumes nothing.
 use Prim.Native.Nat.{ℕ}
 use mathlib.Core.Path.{refl, sym, ap, _∙_, subst}
-use mathlib.Core.List.{[], _∷_}
+use mathlib.Core.List.{List, [], _∷_}
 use native.Mathlib.Omega.{arith}
 use denote.Ref.{now}
 use lib.ListN.{drop}
 use Rattle.layout.specs.Layout.{Within}
 use Rattle.road.specs.declared.Receiver.{Receiver}
 use Rattle.road.specs.Fields.{receiverTable}
-use Rattle.codec.specs.declared.Request.the-variants.{PlaceReceiver}
-use Rattle.codec.specs.Kinds.{receiverSlotBits, at, kindAt, layoutOf, callIn}
-use Rattle.codec.proofs.Laws.{slot-there, slot-fits, table-fits, ask-else}
+use Rattle.road.proofs.Rows.{upto-take}
+use Rattle.daily.specs.declared.Daily.{Daily}
+use Rattle.daily.specs.Daily.{dailyBits, dailyOf}
+use Rattle.codec.specs.declared.Request.the-variants.{PlaceReceiver, PlaceDaily}
+use Rattle.codec.specs.Kinds.{receiverSlotBits, sourceSlotBits, at, kindAt, layoutOf, callIn}
+use Rattle.codec.proofs.Laws.{slot-there, slot-fits, part-there, part-fits, table-fits, ask-else}
+use borrow.Author.Needs.{needs}
 use Rattle.codec.proofs.kinds.call.Statement.{statement}
 use Rattle.codec.proofs.kinds.call.Tie as tie
 
@@ -32,6 +36,29 @@ receiver-of-requires c κs =
     let v = now (z .args .v) in
     table-fits receiverTable receiverSlotBits (5 ∷ []) v refl (subst (λ (k : ℕ). Within (layoutOf k) v) (c .match .keys1) (z .pre .1))
 
+add-daily-of : tie.Need-add-daily-of
+add-daily-of c = search needs
+
+sub-daily-of : tie.Need-sub-daily-of
+sub-daily-of c = search needs
+
+part-daily-of-start : tie.Need-part-daily-of-start
+part-daily-of-start c = search needs
+
+part-daily-of-end : tie.Need-part-daily-of-end
+unfolding kindAt
+part-daily-of-end c =
+    let z = c .before .before .before in
+    let v = now (z .args .v) in
+    part-there sourceSlotBits dailyBits (2 ∷ []) v (subst (λ (k : ℕ). Within (layoutOf k) v) (c .match .keys5) (z .pre .1))
+
+daily-of-requires : tie.Need-daily-of-requires
+unfolding kindAt
+daily-of-requires c κs =
+    let z = c .before .before .before .before in
+    let v = now (z .args .v) in
+    part-fits sourceSlotBits dailyBits (2 ∷ []) v (subst (λ (k : ℕ). Within (layoutOf k) v) (c .before .match .keys5) (z .pre .1))
+
 returns : tie.Need-returns
 unfolding kindAt
 returns c =
@@ -51,10 +78,18 @@ unfolding kindAt
 returns-4 c = ap (λ (k : ℕ). callIn k (now (c .before .before .before .args .v))) (sym (c .match .keys4))
 
 returns-5 : tie.Need-returns-5
+unfolding kindAt
 returns-5 c =
+    let v = now (c .before .before .before .before .before .args .v) in
+    ap (λ (d : Daily). PlaceDaily (at v 1) d) (c .daily-of .ensures)
+    ∙ ap (λ (w : List ℕ). PlaceDaily (at v 1) (dailyOf w)) (upto-take 14 (drop 2 v))
+    ∙ ap (λ (k : ℕ). callIn k v) (sym (c .before .before .match .keys5))
+
+returns-6 : tie.Need-returns-6
+returns-6 c =
     let n = c .match .rest in
     let a = c .before .before .before .args in
-    sym (ask-else (a .kind) (at (now (a .v)) 1) (drop 2 (now (a .v))) (n .0 .0 .0 .1) (n .0 .0 .1) (n .0 .1) (n .1))
+    sym (ask-else (a .kind) (at (now (a .v)) 1) (drop 2 (now (a .v))) (n .0 .0 .0 .0 .1) (n .0 .0 .0 .1) (n .0 .0 .1) (n .0 .1) (n .1))
 
 pub call-spec : {M : Type 1} → statement M
 call-spec =
@@ -63,8 +98,14 @@ call-spec =
     shared-slice-read-slot
     cast-slot
     receiver-of-requires
+    add-daily-of
+    sub-daily-of
+    part-daily-of-start
+    part-daily-of-end
+    daily-of-requires
     returns
     returns-2
     returns-3
     returns-4
-    returns-5)
+    returns-5
+    returns-6)

@@ -1,8 +1,10 @@
--- `fields_of` joins the fields of each call. A receiver's leftover bits are among the zeros after its fields.
+-- `fields_of` joins the fields of each call. The leftover bits of a receiver and of a daily figure are among the zeros after the fields.
 -- Assumes nothing.
 use Prim.Native.Nat.{ℕ}
 use mathlib.Core.Path.{sym, ap, _∙_}
 use mathlib.Core.List.{List, _∷_}
+use native.Mathlib.Omega.{arith}
+use lib.ListN.{length, take}
 use Rattle.codec.specs.declared.Request.{Request}
 use Rattle.codec.specs.Kinds.{fieldsOf}
 use Rattle.codec.specs.Inner.{filled}
@@ -61,6 +63,21 @@ slice-aggregate-join-5 c = search needs
 join-requires-5 : tie.Need-join-requires-5
 join-requires-5 c κs = search needs
 
+enum-known-call-6 : tie.Need-enum-known-call-6
+enum-known-call-6 c = search needs
+
+values-requires : tie.Need-values-requires
+values-requires c κs = search needs
+
+array-share-prefix-fields : tie.Need-array-share-prefix-fields
+array-share-prefix-fields c = search needs
+
+slice-aggregate-join-6 : tie.Need-slice-aggregate-join-6
+slice-aggregate-join-6 c = ap (λ (v : List ℕ). length (take 14 v)) (sym (c .before .values .ensures))
+
+join-requires-6 : tie.Need-join-requires-6
+join-requires-6 c κs = omega (arith, ap (λ (v : List ℕ). length (take 14 v)) (c .before .values .ensures))
+
 returns : tie.Need-returns
 unfolding filled
 returns c =
@@ -91,6 +108,15 @@ returns-5 c =
     let a = c .before .before .before .before .before .args in
     c .join5 .ensures ∙ ap (λ (x : Request). filled (fieldsOf x (a .source))) (sym (c .before .before .before .call5 .given .1))
 
+returns-6 : tie.Need-returns-6
+unfolding filled
+returns-6 c =
+    let d = c .before .before .before .before in
+    let a = d .before .before .args in
+    c .join6 .ensures
+    ∙ ap (λ (v : List ℕ). filled (6 ∷ d .call6 .given .0 .0 ∷ take 14 v)) (c .before .before .values .ensures)
+    ∙ ap (λ (x : Request). filled (fieldsOf x (a .source))) (sym (d .call6 .given .1))
+
 pub fields-of-spec : {M : Type 1} → statement M
 fields-of-spec =
     tie.close
@@ -112,8 +138,14 @@ fields-of-spec =
     enum-known-call-5
     slice-aggregate-join-5
     join-requires-5
+    enum-known-call-6
+    values-requires
+    array-share-prefix-fields
+    slice-aggregate-join-6
+    join-requires-6
     returns
     returns-2
     returns-3
     returns-4
-    returns-5)
+    returns-5
+    returns-6)

@@ -44,6 +44,15 @@ enum-known-call-5 c = search needs
 judge-slot-requires-5 : tie.Need-judge-slot-requires-5
 judge-slot-requires-5 c κs = search needs
 
+enum-known-call-6 : tie.Need-enum-known-call-6
+enum-known-call-6 c = search needs
+
+judge-requires : tie.Need-judge-requires
+judge-requires c κs = search needs
+
+judge-slot-requires-6 : tie.Need-judge-slot-requires-6
+judge-slot-requires-6 c κs = search needs
+
 returns : tie.Need-returns
 unfolding verdictOf
 returns c =
@@ -71,6 +80,12 @@ unfolding verdictOf
 returns-5 c =
     c .judge-slot5 .ensures ∙ ap (λ (x : Request). verdictOf x (c .before .before .before .before .args .source)) (sym (c .before .before .call5 .given .1))
 
+returns-6 : tie.Need-returns-6
+unfolding verdictOf
+returns-6 c =
+    c .judge-slot6 .ensures ∙ ap (slotVerdict lastNamedSource (c .before .before .before .call6 .given .0 .0)) (c .before .judge .ensures)
+    ∙ ap (λ (x : Request). verdictOf x (c .before .before .before .before .before .args .source)) (sym (c .before .before .before .call6 .given .1))
+
 pub verdict-spec : {M : Type 1} → statement M
 verdict-spec =
     tie.close
@@ -87,8 +102,12 @@ verdict-spec =
     judge-slot-requires-4
     enum-known-call-5
     judge-slot-requires-5
+    enum-known-call-6
+    judge-requires
+    judge-slot-requires-6
     returns
     returns-2
     returns-3
     returns-4
-    returns-5)
+    returns-5
+    returns-6)

@@ -3,8 +3,8 @@
 use Prim.Native.Nat.{ℕ}
 use mathlib.Core.Path.{sym, ap, _∙_}
 use denote.Ref.{now}
-use Rattle.codec.specs.declared.Request.the-variants.{PlaceReceiver, WithdrawReceiver, PlaceSource, WithdrawSource, Ask}
-use Rattle.probe.specs.Raw.{one, two, rawReceiver, callBy}
+use Rattle.codec.specs.declared.Request.the-variants.{PlaceReceiver, WithdrawReceiver, PlaceSource, WithdrawSource, Ask, PlaceDaily}
+use Rattle.probe.specs.Raw.{one, two, rawReceiver, rawDaily, callBy}
 use Rattle.probe.proofs.Laws.{ask-else}
 use borrow.Author.Needs.{needs}
 use Rattle.probe.proofs.call.of.Statement.{statement}
@@ -19,36 +19,47 @@ element-copy-out-kind c = search needs
 receiver-requires : tie.Need-receiver-requires
 receiver-requires c κs = search needs
 
+daily-requires : tie.Need-daily-requires
+daily-requires c κs = search needs
+
 returns : tie.Need-returns
 unfolding callBy
 returns c =
     let s = now (c .before .before .before .before .args .raw) in
     (λ i. PlaceReceiver (c .before .before .before .two .ensures i) (c .receiver .ensures i))
-    ∙ ap (λ (k : ℕ). callBy k (two s 1) (rawReceiver s)) (sym (c .before .match .keys1))
+    ∙ ap (λ (k : ℕ). callBy k (two s 1) (rawReceiver s) (rawDaily s)) (sym (c .before .match .keys1))
 
 returns-2 : tie.Need-returns-2
 unfolding callBy
 returns-2 c =
     let s = now (c .before .before .before .args .raw) in
-    ap WithdrawReceiver (c .before .before .two .ensures) ∙ ap (λ (k : ℕ). callBy k (two s 1) (rawReceiver s)) (sym (c .match .keys2))
+    ap WithdrawReceiver (c .before .before .two .ensures) ∙ ap (λ (k : ℕ). callBy k (two s 1) (rawReceiver s) (rawDaily s)) (sym (c .match .keys2))
 
 returns-3 : tie.Need-returns-3
 unfolding callBy
 returns-3 c =
     let s = now (c .before .before .before .args .raw) in
-    ap PlaceSource (c .before .before .two .ensures) ∙ ap (λ (k : ℕ). callBy k (two s 1) (rawReceiver s)) (sym (c .match .keys3))
+    ap PlaceSource (c .before .before .two .ensures) ∙ ap (λ (k : ℕ). callBy k (two s 1) (rawReceiver s) (rawDaily s)) (sym (c .match .keys3))
 
 returns-4 : tie.Need-returns-4
 unfolding callBy
 returns-4 c =
     let s = now (c .before .before .before .args .raw) in
-    ap WithdrawSource (c .before .before .two .ensures) ∙ ap (λ (k : ℕ). callBy k (two s 1) (rawReceiver s)) (sym (c .match .keys4))
+    ap WithdrawSource (c .before .before .two .ensures) ∙ ap (λ (k : ℕ). callBy k (two s 1) (rawReceiver s) (rawDaily s)) (sym (c .match .keys4))
 
 returns-5 : tie.Need-returns-5
+unfolding callBy
 returns-5 c =
+    let s = now (c .before .before .before .before .args .raw) in
+    (λ i. PlaceDaily (c .before .before .before .two .ensures i) (c .daily .ensures i))
+    ∙ ap (λ (k : ℕ). callBy k (two s 1) (rawReceiver s) (rawDaily s)) (sym (c .before .match .keys5))
+
+returns-6 : tie.Need-returns-6
+returns-6 c =
     let s = now (c .before .before .before .args .raw) in
     let n = c .match .rest in
-    ap Ask (c .before .before .two .ensures) ∙ sym (ask-else (one s 0) (two s 1) (rawReceiver s) (n .0 .0 .0 .1) (n .0 .0 .1) (n .0 .1) (n .1))
+    ap Ask (c .before .before .two .ensures)
+    ∙ sym (ask-else (one s 0) (two s 1) (rawReceiver s) (rawDaily s) (n .0 .0 .0 .0 .1) (n .0 .0 .0 .1) (n .0 .0 .1) (n .0 .1) (n .1))
 
 pub of-spec : {M : Type 1} → statement M
 of-spec =
@@ -57,8 +68,10 @@ of-spec =
     two-requires
     element-copy-out-kind
     receiver-requires
+    daily-requires
     returns
     returns-2
     returns-3
     returns-4
-    returns-5)
+    returns-5
+    returns-6)

@@ -1,0 +1,141 @@
+-- Laws of daily figures: the numbers of table 2, the counts that they make, and the verdict of a road by its daily figure.
+-- Assumes nothing.
+use Prim.Native.Nat.{ℕ, zero, suc, _+_, _*_, _^_, _≤_, _<_}
+use mathlib.Core.Path.{_≡_, refl, sym, ap, _∙_, subst⁻¹}
+use mathlib.Core.List.{List, [], _∷_, _++_}
+use native.Mathlib.Omega.{arith}
+use lib.ListN.{length, getD, take}
+use lib.Seq.{take-all}
+use borrow.Author.Tests.{ltb-false}
+use Rattle.layout.specs.Layout.{Within}
+use Rattle.layout.specs.Bounds.{firstOutside}
+use Rattle.layout.proofs.Packing.{within-length, within-at, within-front, within-append}
+use Rattle.layout.proofs.Bounds.{inside-at, all-inside, inside-within}
+use Rattle.road.specs.declared.Source.{Source}
+use Rattle.road.specs.declared.Verdict.{Verdict}
+use Rattle.road.specs.declared.Verdict.the-variants.{Allowed}
+use Rattle.road.specs.Fields.{roadTable, trafficTable, valuesBy, bitsBy, slotBitsBy, leastBy, mostBy, numberAt, Fit}
+use Rattle.road.specs.Judge.{outsideBy, unlessOutside, sourceVerdict}
+use Rattle.road.proofs.Bounds.{times}
+use Rattle.road.proofs.Fit.{past, source-within}
+use Rattle.road.proofs.Rows.{record-fit, fit-wider}
+use Rattle.road.proofs.Judged.{inside, road-first, ByFields, outside-by, source-by}
+use Rattle.daily.specs.declared.Daily.{Daily}
+use Rattle.daily.specs.Daily.{tableTwo, countsOf, counted, lastClass, dailyTable, dailyBits, dailyFields, Figured, Promises, dailyVerdict}
+
+-- ---- table 2
+
+-- the greatest factor and part of trucks that a row has
+abbrev tops : List ℕ
+tops = 62 ∷ 1000 ∷ 62 ∷ 1000 ∷ 62 ∷ 1000 ∷ []
+
+abbrev zeros : List ℕ
+zeros = 0 ∷ 0 ∷ 0 ∷ 0 ∷ 0 ∷ 0 ∷ []
+
+rows-inside : (k : ℕ) → k ≤ lastClass → firstOutside zeros tops (getD tableTwo k []) ≡ 6
+rows-inside zero h = refl
+rows-inside (suc zero) h = refl
+rows-inside (suc (suc zero)) h = refl
+rows-inside (suc (suc (suc zero))) h = refl
+rows-inside (suc (suc (suc (suc k)))) h = absurd (omega arith)
+
+-- each number of a row
+pub row-most : (k i : ℕ) → k ≤ lastClass → i < 6 → getD (getD tableTwo k []) i 0 ≤ getD tops i 0
+row-most k i h l = inside-at zeros tops (getD tableTwo k []) i (omega (arith, rows-inside k h)) .1
+
+-- ---- the counts
+
+-- the street of METHOD 3
+street : countsOf (record { class = 3; dtv = 1500 }) ≡ 93000 ∷ 100 ∷ 63000 ∷ 65 ∷ 16500 ∷ 30 ∷ []
+street = refl
+
+module _ (d : Daily) (h : d .class ≤ lastClass) where
+  factor : (i : ℕ) → i < 6 → getD tops i 0 ≡ 62 → (top : ℕ) → d .dtv * 62 ≤ top → d .dtv * getD (getD tableTwo (d .class) []) i 0 ≤ top
+  factor i l e top t = omega (arith, times (d .dtv) (getD (getD tableTwo (d .class) []) i 0) (d .dtv) 62 (omega arith) (omega (arith, row-most (d .class) i h l)))
+
+  counts-most : (top : ℕ) → d .dtv * 62 ≤ top → (i : ℕ) → i < 6
+      → (getD zeros i 0 ≤ getD (countsOf d) i 0) × (getD (countsOf d) i 0 ≤ getD (top ∷ 1000 ∷ top ∷ 1000 ∷ top ∷ 1000 ∷ []) i 0)
+  counts-most top t zero l = (omega arith, factor 0 l refl top t)
+  counts-most top t (suc zero) l = (omega arith, row-most (d .class) 1 h l)
+  counts-most top t (suc (suc zero)) l = (omega arith, factor 2 l refl top t)
+  counts-most top t (suc (suc (suc zero))) l = (omega arith, row-most (d .class) 3 h l)
+  counts-most top t (suc (suc (suc (suc zero)))) l = (omega arith, factor 4 l refl top t)
+  counts-most top t (suc (suc (suc (suc (suc zero))))) l = (omega arith, row-most (d .class) 5 h l)
+  counts-most top t (suc (suc (suc (suc (suc (suc i)))))) l = absurd (omega arith)
+
+  -- they fit the widths of a record
+  pub counts-within : d .dtv < 2 ^ 18 → Within (bitsBy trafficTable) (countsOf d)
+  counts-within l =
+      let b = counts-most 16777215 (omega arith) in
+      inside-within (bitsBy trafficTable) zeros (16777215 ∷ 1000 ∷ 16777215 ∷ 1000 ∷ 16777215 ∷ 1000 ∷ []) (countsOf d) refl refl
+      (all-inside zeros (16777215 ∷ 1000 ∷ 16777215 ∷ 1000 ∷ 16777215 ∷ 1000 ∷ []) (countsOf d) refl refl b)
+
+-- ---- the values of a road and its daily figure
+
+module _ (v : List ℕ) (w : Within dailyBits v) where
+  pub figures-there : length v ≡ 14
+  figures-there = within-length dailyBits v w
+
+  pub class-fits : getD v 12 0 < 4
+  class-fits = within-at dailyBits v 12 w (omega arith)
+
+  pub dtv-fits : getD v 13 0 < 2 ^ 18
+  dtv-fits = within-at dailyBits v 13 w (omega arith)
+
+  pub road-fits : (length roadTable ≤ length v) × Fit (slotBitsBy roadTable) 0 v
+  road-fits =
+      let e : take 14 v ≡ v = take-all 14 v (omega (arith, figures-there)) in
+      let f = record-fit dailyBits v (subst⁻¹ (Within dailyBits) e w) in
+      (omega (arith, figures-there), fit-wider roadTable (bitsBy dailyTable) 0 v refl f)
+
+-- ---- the two fields
+
+pub number-at : (i : ℕ) → i < length dailyTable → 14 + i ≡ numberAt dailyTable i
+number-at zero h = refl
+number-at (suc zero) h = refl
+number-at (suc (suc i)) h = absurd (omega arith)
+
+pub inside-figured : (d : Daily) → length dailyTable ≤ outsideBy dailyTable d → Figured d
+inside-figured d h =
+    let b = inside-at (leastBy dailyTable d) (mostBy dailyTable d) (valuesBy dailyTable d) in
+    (b 0 (omega arith) .1, b 1 (omega arith))
+
+-- an allowed road with its daily figure fits a record
+pub daily-within : (d : Daily) (s : Source) → dailyVerdict d s ≡ Allowed
+    → Within dailyBits (dailyFields d s)
+unfolding dailyVerdict
+daily-within d s e =
+    let v : Verdict = sourceVerdict (counted d s) in
+    let b = past dailyTable d v (past roadTable s (unlessOutside dailyTable d v) e .1) in
+    let f = inside-figured d (ltb-false (outsideBy dailyTable d) (length dailyTable) (b .0)) in
+    let w = within-front (bitsBy roadTable) (bitsBy trafficTable) (valuesBy roadTable s ++ countsOf d) (source-within (counted d s) (b .1)) in
+    within-append (bitsBy roadTable) (valuesBy roadTable s) (bitsBy dailyTable) (valuesBy dailyTable d) w (omega (arith, f .0), (omega (arith, f .1 .1), tt))
+
+-- ---- what is promised
+
+figured-inside : (d : Daily) → Figured d → length dailyTable ≤ outsideBy dailyTable d
+figured-inside d f =
+    let e = all-inside (leastBy dailyTable d) (mostBy dailyTable d) (d .class ∷ d .dtv ∷ []) refl refl b in omega arith
+  where
+    b : (i : ℕ) → i < 2 → (getD (leastBy dailyTable d) i 0 ≤ getD (d .class ∷ d .dtv ∷ []) i 0) × (getD (d .class ∷ d .dtv ∷ []) i 0 ≤ getD (mostBy dailyTable d) i 0)
+    b zero l = (omega arith, f .0)
+    b (suc zero) l = f .1
+    b (suc (suc i)) l = absurd (omega arith)
+
+pub same-verdict : (d : Daily) (s : Source) → Figured d → dailyVerdict d s ≡ sourceVerdict (counted d s)
+unfolding dailyVerdict
+same-verdict d s f =
+    ap (unlessOutside roadTable s) (sym (inside dailyTable d (sourceVerdict (counted d s)) (outsideBy dailyTable d) refl (figured-inside d f)))
+    ∙ road-first (counted d s)
+
+pub counts-allowed : (d : Daily) (s : Source) → Figured d → outsideBy trafficTable (counted d s) ≡ length trafficTable
+counts-allowed d s f =
+    all-inside (leastBy trafficTable s) (mostBy trafficTable s) (countsOf d) refl refl (counts-most d (f .0) 10000000 (omega (arith, f .1 .1)))
+
+pub promises : Promises
+promises = record { same-verdict = same-verdict; counts-allowed = counts-allowed }
+
+-- a verdict is refused 5, 6 or 7 and no other
+pub daily-by : (d : Daily) (s : Source) → ByFields (dailyVerdict d s)
+unfolding dailyVerdict
+daily-by d s = outside-by roadTable s _ (outside-by dailyTable d _ (source-by (counted d s)))

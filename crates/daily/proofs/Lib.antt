@@ -1,0 +1,3 @@
+-- Laws of daily figures.
+pub mod Laws
+pub mod Settled
