@@ -11,15 +11,16 @@ use Rattle.layout.specs.Layout.{Within}
 use Rattle.layout.specs.Bounds.{firstOutside}
 use Rattle.layout.proofs.Packing.{within-length, within-at, within-front, within-append}
 use Rattle.layout.proofs.Bounds.{inside-at, all-inside, inside-within}
+use Rattle.answer.specs.declared.Refusal.the-variants.{Field}
 use Rattle.road.specs.declared.Source.{Source}
 use Rattle.road.specs.declared.Verdict.{Verdict}
-use Rattle.road.specs.declared.Verdict.the-variants.{Allowed}
+use Rattle.road.specs.declared.Verdict.the-variants.{Allowed, Refused}
 use Rattle.road.specs.Fields.{roadTable, trafficTable, valuesBy, bitsBy, slotBitsBy, leastBy, mostBy, numberAt, Fit}
 use Rattle.road.specs.Judge.{outsideBy, unlessOutside, sourceVerdict}
 use Rattle.road.proofs.Bounds.{times}
 use Rattle.road.proofs.Fit.{past, source-within}
 use Rattle.road.proofs.Rows.{record-fit, fit-wider}
-use Rattle.road.proofs.Judged.{inside, road-first, ByFields, outside-by, source-by}
+use Rattle.road.proofs.Judged.{outside, inside, road-first, ByFields, outside-by, source-by}
 use Rattle.daily.specs.declared.Daily.{Daily}
 use Rattle.daily.specs.Daily.{tableTwo, countsOf, counted, lastClass, dailyTable, dailyBits, dailyFields, Figured, Promises, dailyVerdict}
 
@@ -40,8 +41,15 @@ rows-inside (suc (suc (suc zero))) h = refl
 rows-inside (suc (suc (suc (suc k)))) h = absurd (omega arith)
 
 -- each number of a row
-pub row-most : (k i : ℕ) → k ≤ lastClass → i < 6 → getD (getD tableTwo k []) i 0 ≤ getD tops i 0
+row-most : (k i : ℕ) → k ≤ lastClass → i < 6 → getD (getD tableTwo k []) i 0 ≤ getD tops i 0
 row-most k i h l = inside-at zeros tops (getD tableTwo k []) i (omega (arith, rows-inside k h)) .1
+
+-- so what the code has of a row is small enough for it
+pub small-row : {r : List ℕ} (k : ℕ) → r ≡ getD tableTwo k [] → k ≤ lastClass
+    → (getD r 0 0 ≤ 62) × (getD r 1 0 ≤ 1000) × (getD r 2 0 ≤ 62) × (getD r 3 0 ≤ 1000) × (getD r 4 0 ≤ 62) × (getD r 5 0 ≤ 1000)
+small-row {r} k e h =
+    let b : (i : ℕ) → i < 6 → getD r i 0 ≤ getD tops i 0 = λ i l. omega (arith, ap (λ (x : List ℕ). getD x i 0) e, row-most k i h l) in
+    (b 0 (omega arith), b 1 (omega arith), b 2 (omega arith), b 3 (omega arith), b 4 (omega arith), b 5 (omega arith))
 
 -- ---- the counts
 
@@ -100,18 +108,12 @@ inside-figured d h =
     let b = inside-at (leastBy dailyTable d) (mostBy dailyTable d) (valuesBy dailyTable d) in
     (b 0 (omega arith) .1, b 1 (omega arith))
 
--- an allowed road with its daily figure fits a record
-pub daily-within : (d : Daily) (s : Source) → dailyVerdict d s ≡ Allowed
-    → Within dailyBits (dailyFields d s)
-unfolding dailyVerdict
-daily-within d s e =
-    let v : Verdict = sourceVerdict (counted d s) in
-    let b = past dailyTable d v (past roadTable s (unlessOutside dailyTable d v) e .1) in
-    let f = inside-figured d (ltb-false (outsideBy dailyTable d) (length dailyTable) (b .0)) in
-    let w = within-front (bitsBy roadTable) (bitsBy trafficTable) (valuesBy roadTable s ++ countsOf d) (source-within (counted d s) (b .1)) in
-    within-append (bitsBy roadTable) (valuesBy roadTable s) (bitsBy dailyTable) (valuesBy dailyTable d) w (omega (arith, f .0), (omega (arith, f .1 .1), tt))
-
 -- ---- what is promised
+
+road-named : (d : Daily) (s : Source) → outsideBy roadTable s < length roadTable
+    → dailyVerdict d s ≡ Refused (Field (numberAt roadTable (outsideBy roadTable s)))
+unfolding dailyVerdict
+road-named d s h = sym (outside roadTable s (unlessOutside dailyTable d (sourceVerdict (counted d s))) (outsideBy roadTable s) refl h)
 
 figured-inside : (d : Daily) → Figured d → length dailyTable ≤ outsideBy dailyTable d
 figured-inside d f =
@@ -133,9 +135,22 @@ counts-allowed d s f =
     all-inside (leastBy trafficTable s) (mostBy trafficTable s) (countsOf d) refl refl (counts-most d (f .0) 10000000 (omega (arith, f .1 .1)))
 
 pub promises : Promises
-promises = record { same-verdict = same-verdict; counts-allowed = counts-allowed }
+promises = record { road-named = road-named; same-verdict = same-verdict; counts-allowed = counts-allowed }
 
--- a verdict is refused 5, 6 or 7 and no other
+-- ---- what else a verdict tells
+
+-- an allowed road with its daily figure fits a record
+pub daily-within : (d : Daily) (s : Source) → dailyVerdict d s ≡ Allowed
+    → Within dailyBits (dailyFields d s)
+unfolding dailyVerdict
+daily-within d s e =
+    let v : Verdict = sourceVerdict (counted d s) in
+    let b = past dailyTable d v (past roadTable s (unlessOutside dailyTable d v) e .1) in
+    let f = inside-figured d (ltb-false (outsideBy dailyTable d) (length dailyTable) (b .0)) in
+    let w = within-front (bitsBy roadTable) (bitsBy trafficTable) (valuesBy roadTable s ++ countsOf d) (source-within (counted d s) (b .1)) in
+    within-append (bitsBy roadTable) (valuesBy roadTable s) (bitsBy dailyTable) (valuesBy dailyTable d) w (omega (arith, f .0), (omega (arith, f .1 .1), tt))
+
+-- it is refused 5, 6 or 7 and no other
 pub daily-by : (d : Daily) (s : Source) → ByFields (dailyVerdict d s)
 unfolding dailyVerdict
 daily-by d s = outside-by roadTable s _ (outside-by dailyTable d _ (source-by (counted d s)))

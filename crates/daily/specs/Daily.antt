@@ -1,12 +1,14 @@
--- Traffic by the daily figure (METHOD 5): the counts that a class of road and its vehicles a day stand for, by VBUS table 2, and which
+-- Traffic by the daily figure (METHOD 4): the counts that a class of road and its vehicles a day stand for, by VBUS table 2, and which
 -- of them are allowed.
-use Prim.Native.Nat.{ℕ, _*_, _-_, _≤_}
+use Prim.Native.Nat.{ℕ, _*_, _-_, _≤_, _<_}
 use mathlib.Core.Path.{_≡_}
 use mathlib.Core.List.{List, [], _∷_, _++_}
 use lib.ListN.{length, getD}
+use Rattle.answer.specs.declared.Refusal.the-variants.{Field}
 use Rattle.road.specs.declared.Source.{Source}
 use Rattle.road.specs.declared.Verdict.{Verdict}
-use Rattle.road.specs.Fields.{Row, row, roadTable, trafficTable, sourceOf, valuesBy, bitsBy}
+use Rattle.road.specs.declared.Verdict.the-variants.{Refused}
+use Rattle.road.specs.Fields.{Row, row, roadTable, trafficTable, sourceOf, valuesBy, bitsBy, numberAt}
 use Rattle.road.specs.Judge.{outsideBy, unlessOutside, sourceVerdict}
 use Rattle.daily.specs.declared.Daily.{Daily}
 
@@ -79,7 +81,10 @@ abbrev pub Figured : Daily → Type 0
 Figured d = (d .class ≤ lastClass) × ((1 ≤ d .dtv) × (d .dtv ≤ busiest))
 
 pub record Promises : Type 0 where
-  -- then the road is judged as the source that they stand for
+  -- a field of the road that is not allowed is named, whatever class and vehicles a day are
+  pub road-named : (d : Daily) (s : Source) → outsideBy roadTable s < length roadTable
+      → dailyVerdict d s ≡ Refused (Field (numberAt roadTable (outsideBy roadTable s)))
+  -- where these two are allowed, the road is judged as the source that they stand for
   pub same-verdict : (d : Daily) (s : Source) → Figured d → dailyVerdict d s ≡ sourceVerdict (counted d s)
   -- whose counts are always allowed: refusal 5 names the class by 14 and the vehicles a day by 15, and no count
   pub counts-allowed : (d : Daily) (s : Source) → Figured d → outsideBy trafficTable (counted d s) ≡ length trafficTable

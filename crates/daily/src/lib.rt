@@ -7,9 +7,9 @@ use road::Verdict;
 use road::fields;
 use road::judge;
 ghost use mathlib.Core.Path.{_≡_};
-ghost use mathlib.Core.List.{_++_};
+ghost use mathlib.Core.List.{[], _++_};
 ghost use Prim.Native.Nat.{_*_, _^_, _≤_, _<_};
-ghost use lib.ListN.{length, drop};
+ghost use lib.ListN.{length, getD, drop};
 ghost use Rattle.level.specs.Table.{table};
 ghost use Rattle.layout.specs.Layout.{Within};
 ghost use Rattle.road.specs.Fields.{trafficTable, valuesBy, sourceOf, trafficOf};
@@ -51,6 +51,15 @@ const TABLE_2: [[u32; 6]; CLASSES] = [
     [62, 100, 42, 65, 11, 30],
 ];
 
+// The row of a class.
+fn row_of(class: u8) -> [u32; 6]
+    requires { ⌜ class ≤ spec.lastClass ⌝ }
+    ensures { λ r. ⌜ r ≡ getD spec.tableTwo class [] ⌝ }
+{
+    let table = TABLE_2;
+    table[class as usize]
+}
+
 // The traffic of a period, from the vehicles a day and two numbers of table 2.
 fn period(dtv: u32, m: u32, p: u32) -> Traffic
     requires { ⌜ (dtv < 2 ^ 18) × (m ≤ 62) × (p ≤ 1000) ⌝ }
@@ -68,8 +77,7 @@ pub fn counted(d: Daily, s: Source) -> Source
     requires { ⌜ (d .class ≤ spec.lastClass) × (d .dtv < 2 ^ 18) ⌝ }
     ensures { λ r. ⌜ r ≡ spec.counted d s ⌝ }
 {
-    let table = TABLE_2;
-    let row = table[d.class as usize];
+    let row = row_of(d.class);
     let day = period(d.dtv, row[0], row[1]);
     let evening = period(d.dtv, row[2], row[3]);
     let night = period(d.dtv, row[4], row[5]);

@@ -1,4 +1,4 @@
--- A record by the daily figure (kind 6) comes to what the record of its counts (kind 3) comes to, on any store (METHOD 5).
+-- A record by the daily figure (kind 6) comes to what the record of its counts (kind 3) comes to, on any store (METHOD 4).
 -- `by-day` in proofs/ByDay.antt proves it.
 use Prim.Native.Nat.{ℕ, _≤_}
 use mathlib.Core.Path.{_≡_}
