@@ -53,7 +53,21 @@ pub first-filled : (k : ℕ) (v : List ℕ) → length v ≡ length (layoutOf k)
 unfolding filled
 first-filled k v e = take-at v (drop (length v) (replicate 25 0)) (length (layoutOf k)) e
 
--- the reader's array begins with the fields that are read
+-- the reader's array, once the fields are read into it
+pub read-into : (k n : ℕ) (s : List ℕ) {v : List ℕ} → v ≡ fields (layoutOf k) s → n ≡ length (layoutOf k)
+    → v ++ drop n (replicate 25 0) ≡ filled (fields (layoutOf k) s)
+unfolding filled
+read-into k n s e f = λ i. e i ++ drop ((f ∙ sym (length-fields (layoutOf k) s)) i) (replicate 25 0)
+
+filled-longer : (v : List ℕ) → length v ≤ length (filled v)
+unfolding filled
+filled-longer v = omega (arith, length-append v (drop (length v) (replicate 25 0)))
+
+pub read-room : (k n : ℕ) (s : List ℕ) {v : List ℕ} → v ≡ fields (layoutOf k) s → n ≡ length (layoutOf k) → n ≤ length (v ++ drop n (replicate 25 0))
+read-room k n s e f =
+    omega (arith, ap length (read-into k n s e f), filled-longer (fields (layoutOf k) s), length-fields (layoutOf k) s)
+
+-- it begins with the fields that are read
 pub first-values : (k n : ℕ) (s v : List ℕ) → n ≡ length (layoutOf k) → v ≡ filled (fields (layoutOf k) s) → take n v ≡ fields (layoutOf k) s
 first-values k n s v e f = (λ i. take (e i) (f i)) ∙ first-filled k (fields (layoutOf k) s) (length-fields (layoutOf k) s)
 

@@ -14,7 +14,7 @@ ghost use lib.ListN.{length, drop};
 ghost use Rattle.level.specs.Table.{table};
 ghost use Rattle.layout.specs.Layout.{size, fields, packed, Within};
 ghost use Rattle.codec.specs.Kinds.{layoutOf};
-ghost use Rattle.codec.specs.Inner.{filled, firstOf};
+ghost use Rattle.codec.specs.Inner.{firstOf};
 ghost use Rattle.codec.specs.Record.{kindOf, extentOf, refused, heard, readOf, writeOf};
 
 // What a record asks for; the number is the slot. The road of PlaceSource and PlaceDaily stands beside the call, since it holds an array.
@@ -68,16 +68,13 @@ pub fn extent(job: &[u8]) -> usize
     0
 }
 
-// The fields of the record at the front of a job, with zeros after them.
-fn values(job: &[u8], kind: usize) -> [u64; 25]
-    requires { ⌜ size (layoutOf kind) ≤ length (now job) ⌝ }
-    ensures { λ r. ⌜ r ≡ filled (fields (layoutOf kind) (now (job .entry))) ⌝ }
+// The fields of the record at the front of a job, as many as its kind has.
+fn values(job: &[u8], kind: usize, v: &mut [u64])
+    requires { ⌜ (size (layoutOf kind) ≤ length (now job)) × (length (now v) ≡ length (layoutOf kind)) ⌝ }
+    ensures { λ _. ⌜ now (v .exit) ≡ fields (layoutOf kind) (now (job .entry)) ⌝ }
 {
-    let n = kinds::shape_of(kind).count;
     let widths = kinds::widths();
-    let mut v = [0u64; 25];
-    layout::take_fields(job, kinds::layout_of(&widths, kind), &mut v[..n]);
-    v
+    layout::take_fields(job, kinds::layout_of(&widths, kind), v);
 }
 
 // A reading that is refused.
@@ -122,7 +119,8 @@ pub fn read(steps: &[u32; 1000], job: &[u8]) -> Reading
     if bytes == 0 {
         return refuse(Refusal::UnknownKind);
     }
-    let v = values(job, kind);
+    let mut v = [0u64; 25];
+    values(job, kind, &mut v[..count]);
     let leftover = v[fields + 1];
     if 0 < leftover {
         return refuse(Refusal::Leftover);
