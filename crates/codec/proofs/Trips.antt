@@ -1,7 +1,7 @@
 -- The round trips of a record, for every kind: what is read and written again is the same bytes, and what is written and read again the same fields.
 -- And its part: the bytes of a record that is read, and none of one that is refused. Assumes nothing.
 use Prim.Native.Nat.{ℕ, zero, suc, _≤_, _<_}
-use mathlib.Core.Path.{_≡_, refl, sym, ap, ap₂, _∙_, subst}
+use mathlib.Core.Path.{_≡_, refl, sym, ap, ap₂, _∙_}
 use mathlib.Core.Bool.{Bool, true, false, cond, _||_}
 use mathlib.Core.List.{List, [], _++_}
 use native.Mathlib.Omega.{arith}

@@ -1,7 +1,7 @@
 -- A record by the daily figure comes to what the record of its counts comes to.
 -- Assumes nothing.
 use Prim.Native.Nat.{ℕ, _^_, _≤_, _<_}
-use mathlib.Core.Path.{_≡_, refl, sym, ap, _∙_, subst}
+use mathlib.Core.Path.{_≡_, refl, sym, ap, _∙_}
 use mathlib.Core.List.{List, [], _∷_, _++_, append-nil}
 use native.Mathlib.Omega.{arith}
 use lib.Dec.{lit<}
@@ -23,10 +23,9 @@ use Rattle.codec.specs.declared.Request.{Request}
 use Rattle.codec.specs.declared.Request.the-variants as request
 use Rattle.codec.specs.declared.Reading.{Reading}
 use Rattle.codec.specs.Kinds.{kindBits, sourceSlotBits, lastNamedSource, at, kindAt, layoutOf, callIn, sourceIn, leftoverOf, verdictOf, kindNumber, fieldsOf}
-use Rattle.codec.specs.Record.{kindOf, judged, heard, readOf, extentOf, recordOf}
+use Rattle.codec.specs.Record.{kindOf, judged, readOf, extentOf, recordOf}
 use Rattle.codec.proofs.Laws.{part-within}
 use Rattle.codec.proofs.Trips.{read-fields, read-record}
-use Rattle.undamaged.specs.declared.Answer.{Answer}
 use Rattle.service.specs.declared.Deed.{Deed}
 use Rattle.service.specs.Service.{answerTold, deed, doneTo}
 use Rattle.service.specs.ByDay.{numbersOf, spelledOut, Alike, ByDay}

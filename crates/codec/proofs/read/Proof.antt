@@ -1,6 +1,6 @@
 -- `read` gives the lowest refusal that applies, or what the fields tell.
 -- Assumes nothing.
-use Prim.Native.Nat.{ℕ, _+_}
+use Prim.Native.Nat.{ℕ}
 use mathlib.Core.Path.{_≡_, sym, ap, _∙_, subst}
 use mathlib.Core.Bool.{true, false, _||_}
 use native.Mathlib.Omega.{arith}
@@ -12,8 +12,8 @@ use lib.Seq.{length-take-le}
 use Rattle.layout.specs.Layout.{size, fields, Within}
 use Rattle.layout.proofs.Laws.{length-fields, fields-within}
 use Rattle.codec.specs.declared.kinds.Shape.{Shape}
-use Rattle.codec.specs.Kinds.{at, layoutOf, leftoverOf}
-use Rattle.codec.specs.Record.{kindOf, lengthOf, valuesOf, cutShort, unknownKind, heard}
+use Rattle.codec.specs.Kinds.{layoutOf}
+use Rattle.codec.specs.Record.{lengthOf, cutShort, unknownKind, heard}
 use Rattle.codec.proofs.Rows.{row-count, row-fields}
 use Rattle.codec.proofs.Laws.{read-into, read-room, first-values, uncut, leftover-at, read-cut, read-unknown, read-leftover, read-heard}
 use borrow.Author.Needs.{needs}

@@ -4,7 +4,6 @@ use Prim.Native.Nat.{ℕ}
 use mathlib.Core.Path.{ap, _∙_}
 use native.Mathlib.Omega.{arith}
 use Rattle.answer.specs.declared.Refusal.the-variants.{Field}
-use Rattle.road.specs.declared.Source.{Source}
 use Rattle.road.specs.declared.Verdict.the-variants.{Refused}
 use Rattle.road.specs.Judge.{sourceVerdict}
 use Rattle.road.proofs.Judged.{outside, inside}
