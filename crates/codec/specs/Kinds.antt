@@ -10,8 +10,10 @@ use Rattle.road.specs.declared.Verdict.the-variants.{Allowed}
 use Rattle.road.specs.Fields.{sourceTable, receiverTable, sourceOf, receiverOf, bitsBy}
 use Rattle.road.specs.Judge.{sourceFields, receiverFields, sourceVerdict, receiverVerdict, slotVerdict}
 use Rattle.daily.specs.Daily.{dailyBits, dailyFields, dailyOf, counted, dailyVerdict}
+use Rattle.codec.specs.declared.Counts.{Counts}
+use Rattle.codec.specs.declared.Counts.the-variants.{ByPeriod, ByDay}
 use Rattle.codec.specs.declared.Request.{Request}
-use Rattle.codec.specs.declared.Request.the-variants.{PlaceReceiver, WithdrawReceiver, PlaceSource, WithdrawSource, Ask, PlaceDaily}
+use Rattle.codec.specs.declared.Request.the-variants.{PlaceReceiver, WithdrawReceiver, PlaceSource, WithdrawSource, Ask}
 
 -- ---- what every record begins with, in bits: its kind, and field 1, the slot of a source or of a receiver
 
@@ -57,13 +59,13 @@ kinds =
     -- 2: withdraw receiver, 2 bytes
     ∷ kind receiverSlotBits [] (6 ∷ []) (λ slot v. WithdrawReceiver slot) (λ v. blank)
     -- 3: place source, 30 bytes
-    ∷ kind sourceSlotBits (bitsBy sourceTable) [] (λ slot v. PlaceSource slot) sourceOf
+    ∷ kind sourceSlotBits (bitsBy sourceTable) [] (λ slot v. PlaceSource slot ByPeriod) sourceOf
     -- 4: withdraw source, 2 bytes
     ∷ kind sourceSlotBits [] (3 ∷ []) (λ slot v. WithdrawSource slot) (λ v. blank)
     -- 5: ask, 2 bytes
     ∷ kind receiverSlotBits [] (6 ∷ []) (λ slot v. Ask slot) (λ v. blank)
     -- 6: place a source by its daily figure, 20 bytes
-    ∷ kind sourceSlotBits dailyBits (2 ∷ []) (λ slot v. PlaceDaily slot (dailyOf v)) (λ v. counted (dailyOf v) (sourceOf v))
+    ∷ kind sourceSlotBits dailyBits (2 ∷ []) (λ slot v. PlaceSource slot (ByDay (dailyOf v))) (λ v. counted (dailyOf v) (sourceOf v))
     ∷ []
 
 -- the bytes of the longest record: 30
@@ -106,38 +108,45 @@ lastNamedSource = 2 ^ sourceSlotBits - 1
 abbrev pub lastNamedReceiver : ℕ
 lastNamedReceiver = 2 ^ receiverSlotBits - 1
 
+-- whether a source is allowed, by how its traffic is told
+abbrev pub countsVerdict : Counts → Source → Verdict
+countsVerdict ByPeriod s = sourceVerdict s
+countsVerdict (ByDay d) s = dailyVerdict d s
+
 -- whether it is allowed, by the limits of slots, receivers and sources: refusals 5, 6 and 7
 unfoldable pub verdictOf : Request → Source → Verdict
 verdictOf (PlaceReceiver slot r) s = slotVerdict lastNamedReceiver slot (receiverVerdict r)
 verdictOf (WithdrawReceiver slot) s = slotVerdict lastNamedReceiver slot Allowed
-verdictOf (PlaceSource slot) s = slotVerdict lastNamedSource slot (sourceVerdict s)
+verdictOf (PlaceSource slot counts) s = slotVerdict lastNamedSource slot (countsVerdict counts s)
 verdictOf (WithdrawSource slot) s = slotVerdict lastNamedSource slot Allowed
 verdictOf (Ask slot) s = slotVerdict lastNamedReceiver slot Allowed
-verdictOf (PlaceDaily slot d) s = slotVerdict lastNamedSource slot (dailyVerdict d s)
 
 -- its kind
+abbrev pub countsKind : Counts → ℕ
+countsKind ByPeriod = 3
+countsKind (ByDay d) = 6
+
 abbrev pub kindNumber : Request → ℕ
 kindNumber (PlaceReceiver slot r) = 1
 kindNumber (WithdrawReceiver slot) = 2
-kindNumber (PlaceSource slot) = 3
+kindNumber (PlaceSource slot counts) = countsKind counts
 kindNumber (WithdrawSource slot) = 4
 kindNumber (Ask slot) = 5
-kindNumber (PlaceDaily slot d) = 6
 
 -- its kind, its fields, and its leftover bits, which are zero
 abbrev pub fieldsOf : Request → Source → List ℕ
 fieldsOf (PlaceReceiver slot r) s = 1 ∷ slot ∷ (receiverFields r ++ (0 ∷ []))
 fieldsOf (WithdrawReceiver slot) s = 2 ∷ slot ∷ 0 ∷ []
-fieldsOf (PlaceSource slot) s = 3 ∷ slot ∷ sourceFields s
+fieldsOf (PlaceSource slot ByPeriod) s = 3 ∷ slot ∷ sourceFields s
+fieldsOf (PlaceSource slot (ByDay d)) s = 6 ∷ slot ∷ (dailyFields d s ++ (0 ∷ []))
 fieldsOf (WithdrawSource slot) s = 4 ∷ slot ∷ 0 ∷ []
 fieldsOf (Ask slot) s = 5 ∷ slot ∷ 0 ∷ []
-fieldsOf (PlaceDaily slot d) s = 6 ∷ slot ∷ (dailyFields d s ++ (0 ∷ []))
 
 -- the source that goes with it: by a daily figure, the one that it stands for
 abbrev pub sourceWith : Request → Source → Source
 sourceWith (PlaceReceiver slot r) s = blank
 sourceWith (WithdrawReceiver slot) s = blank
-sourceWith (PlaceSource slot) s = s
+sourceWith (PlaceSource slot ByPeriod) s = s
+sourceWith (PlaceSource slot (ByDay d)) s = counted d s
 sourceWith (WithdrawSource slot) s = blank
 sourceWith (Ask slot) s = blank
-sourceWith (PlaceDaily slot d) s = counted d s

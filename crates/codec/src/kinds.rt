@@ -1,5 +1,6 @@
 // The kinds of record: the layout of each, its call, which calls are allowed, and the fields of a call.
 // A new kind is a new row of the tables and a new arm of each match.
+use crate::Counts;
 use crate::Request;
 use road::Source;
 use road::Verdict;
@@ -11,7 +12,8 @@ ghost use Prim.Native.Nat.{_≤_, _<_};
 ghost use lib.ListN.{length};
 ghost use Rattle.level.specs.Table.{table};
 ghost use Rattle.layout.specs.Layout.{size, Within};
-ghost use Rattle.codec.specs.Kinds.{kindAt, layoutOf, callIn, sourceIn, verdictOf, kindNumber, fieldsOf};
+ghost use Rattle.codec.specs.Kinds.{kindAt, layoutOf, callIn, sourceIn, countsVerdict, countsKind, verdictOf, kindNumber, fieldsOf};
+ghost use Rattle.codec.specs.declared.Request.the-variants.{PlaceSource};
 ghost use Rattle.codec.specs.Kinds as kinds;
 ghost use Rattle.codec.specs.Inner.{allWidths, filled, shapeOf};
 
@@ -199,10 +201,24 @@ pub fn call(kind: usize, v: &[u64]) -> Request
     match kind {
         1 => Request::PlaceReceiver(slot, fields::receiver_of(v, FIRST)),
         2 => Request::WithdrawReceiver(slot),
-        3 => Request::PlaceSource(slot),
+        3 => Request::PlaceSource(slot, Counts::ByPeriod),
         4 => Request::WithdrawSource(slot),
-        6 => Request::PlaceDaily(slot, daily::daily_of(&v[FIRST..FIRST + FIGURES])),
+        6 => {
+            let d = daily::daily_of(&v[FIRST..FIRST + FIGURES]);
+            Request::PlaceSource(slot, Counts::ByDay(d))
+        }
         _ => Request::Ask(slot),
+    }
+}
+
+// Which sources are allowed, by how their traffic is told.
+fn judge_counts(steps: &[u32; 1000], counts: Counts, source: Source) -> Verdict
+    requires { ⌜ now steps ≡ table ⌝ }
+    ensures { λ r. ⌜ r ≡ countsVerdict counts source ⌝ }
+{
+    match counts {
+        Counts::ByPeriod => judge::judge_source(steps, source),
+        Counts::ByDay(d) => daily::judge(steps, d, source),
     }
 }
 
@@ -220,8 +236,8 @@ pub fn verdict(steps: &[u32; 1000], call: Request, source: Source) -> Verdict
             slot,
             Verdict::Allowed,
         ),
-        Request::PlaceSource(slot) => {
-            judge::judge_slot(LAST_NAMED_SOURCE, slot, judge::judge_source(steps, source))
+        Request::PlaceSource(slot, counts) => {
+            judge::judge_slot(LAST_NAMED_SOURCE, slot, judge_counts(steps, counts, source))
         }
         Request::WithdrawSource(slot) => judge::judge_slot(
             LAST_NAMED_SOURCE,
@@ -229,9 +245,16 @@ pub fn verdict(steps: &[u32; 1000], call: Request, source: Source) -> Verdict
             Verdict::Allowed,
         ),
         Request::Ask(slot) => judge::judge_slot(LAST_NAMED_RECEIVER, slot, Verdict::Allowed),
-        Request::PlaceDaily(slot, d) => {
-            judge::judge_slot(LAST_NAMED_SOURCE, slot, daily::judge(steps, d, source))
-        }
+    }
+}
+
+// The kind of a record that places a source.
+fn counts_kind(counts: Counts) -> usize
+    ensures { λ r. ⌜ r ≡ countsKind counts ⌝ }
+{
+    match counts {
+        Counts::ByPeriod => 3,
+        Counts::ByDay(_) => 6,
     }
 }
 
@@ -242,10 +265,9 @@ pub fn number(call: Request) -> usize
     match call {
         Request::PlaceReceiver(_, _) => 1,
         Request::WithdrawReceiver(_) => 2,
-        Request::PlaceSource(_) => 3,
+        Request::PlaceSource(_, counts) => counts_kind(counts),
         Request::WithdrawSource(_) => 4,
         Request::Ask(_) => 5,
-        Request::PlaceDaily(_, _) => 6,
     }
 }
 
@@ -287,7 +309,23 @@ fn join(kind: u64, slot: u16, fields: &[u64]) -> [u64; 25]
     v
 }
 
-// The kind, the fields and the leftover bits of a call, with zeros after them. Leftover bits may be the first of these.
+// The kind, the fields and the leftover bits of a source that is placed, with zeros after them.
+fn source_fields(slot: u16, counts: Counts, source: Source) -> [u64; 25]
+    ensures { λ r. ⌜ r ≡ filled (fieldsOf (PlaceSource slot counts) source) ⌝ }
+{
+    match counts {
+        Counts::ByPeriod => {
+            let fields = fields::source_values(source);
+            join(3, slot, &fields)
+        }
+        Counts::ByDay(d) => {
+            let fields = daily::values(d, source);
+            join(6, slot, &fields[..FIGURES])
+        }
+    }
+}
+
+// And of a call. Leftover bits may be the first of the zeros.
 pub fn fields_of(call: Request, source: Source) -> [u64; 25]
     ensures { λ r. ⌜ r ≡ filled (fieldsOf call source) ⌝ }
 {
@@ -298,15 +336,8 @@ pub fn fields_of(call: Request, source: Source) -> [u64; 25]
             join(1, slot, &fields)
         }
         Request::WithdrawReceiver(slot) => join(2, slot, &leftover),
-        Request::PlaceSource(slot) => {
-            let fields = fields::source_values(source);
-            join(3, slot, &fields)
-        }
+        Request::PlaceSource(slot, counts) => source_fields(slot, counts, source),
         Request::WithdrawSource(slot) => join(4, slot, &leftover),
         Request::Ask(slot) => join(5, slot, &leftover),
-        Request::PlaceDaily(slot, d) => {
-            let fields = daily::values(d, source);
-            join(6, slot, &fields[..FIGURES])
-        }
     }
 }

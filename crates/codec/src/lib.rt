@@ -17,14 +17,19 @@ ghost use Rattle.codec.specs.Kinds.{layoutOf};
 ghost use Rattle.codec.specs.Inner.{firstOf};
 ghost use Rattle.codec.specs.Record.{kindOf, extentOf, refused, heard, readOf, writeOf};
 
-// What a record asks for; the number is the slot. The road of PlaceSource and PlaceDaily stands beside the call, since it holds an array.
+// How the traffic of a source is told: by counts for each period, which the source has, or by its daily figure.
+pub enum Counts {
+    ByPeriod,
+    ByDay(Daily),
+}
+
+// What a record asks for; the number is the slot. The road of PlaceSource stands beside the call, since it holds an array.
 pub enum Request {
     PlaceReceiver(u16, Receiver),
     WithdrawReceiver(u16),
-    PlaceSource(u16),
+    PlaceSource(u16, Counts),
     WithdrawSource(u16),
     Ask(u16),
-    PlaceDaily(u16, Daily),
 }
 
 // What a reading tells: a call, or why there is none.
@@ -33,7 +38,7 @@ pub enum Told {
     Refused(Refusal),
 }
 
-// A reading. The source is the road of PlaceSource, or the one that PlaceDaily stands for; all zero otherwise.
+// A reading. The source is the road of PlaceSource, by its daily figure the one that it stands for; all zero otherwise.
 pub struct Reading {
     pub told: Told,
     pub source: Source,

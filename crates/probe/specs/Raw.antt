@@ -7,8 +7,9 @@ use Rattle.road.specs.declared.Receiver.{Receiver}
 use Rattle.road.specs.declared.Traffic.{Traffic}
 use Rattle.road.specs.declared.Source.{Source}
 use Rattle.daily.specs.declared.Daily.{Daily}
+use Rattle.codec.specs.declared.Counts.the-variants.{ByPeriod, ByDay}
 use Rattle.codec.specs.declared.Request.{Request}
-use Rattle.codec.specs.declared.Request.the-variants.{PlaceReceiver, WithdrawReceiver, PlaceSource, WithdrawSource, Ask, PlaceDaily}
+use Rattle.codec.specs.declared.Request.the-variants.{PlaceReceiver, WithdrawReceiver, PlaceSource, WithdrawSource, Ask}
 
 abbrev pub one : List ℕ → ℕ → ℕ
 one s i = getD s i 0
@@ -49,7 +50,7 @@ rawDaily s = record { class = one s 26; dtv = four s 27 }
 
 unfoldable pub callBy : ℕ → ℕ → Receiver → Daily → Request
 callBy kind slot r d =
-    getD (Ask slot ∷ PlaceReceiver slot r ∷ WithdrawReceiver slot ∷ PlaceSource slot ∷ WithdrawSource slot ∷ Ask slot ∷ PlaceDaily slot d ∷ []) kind (Ask slot)
+    getD (Ask slot ∷ PlaceReceiver slot r ∷ WithdrawReceiver slot ∷ PlaceSource slot ByPeriod ∷ WithdrawSource slot ∷ Ask slot ∷ PlaceSource slot (ByDay d) ∷ []) kind (Ask slot)
 
 abbrev pub callAt : List ℕ → Request
 callAt s = callBy (one s 0) (two s 1) (rawReceiver s) (rawDaily s)

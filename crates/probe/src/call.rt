@@ -1,6 +1,7 @@
 // A call as 44 bytes: the kind, the slot (two bytes), and the fields, each as wide as its type. A daily figure stands where traffic would.
 // So calls can be told that no record holds. A kind that is not listed is an ask.
 use daily::Daily;
+use record::Counts;
 use record::Request;
 use road::Receiver;
 use road::Source;
@@ -108,9 +109,9 @@ pub fn of(raw: &[u8; 44]) -> Request
     match kind {
         1 => Request::PlaceReceiver(slot, receiver(raw)),
         2 => Request::WithdrawReceiver(slot),
-        3 => Request::PlaceSource(slot),
+        3 => Request::PlaceSource(slot, Counts::ByPeriod),
         4 => Request::WithdrawSource(slot),
-        6 => Request::PlaceDaily(slot, daily(raw)),
+        6 => Request::PlaceSource(slot, Counts::ByDay(daily(raw))),
         _ => Request::Ask(slot),
     }
 }

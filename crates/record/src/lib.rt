@@ -1,5 +1,6 @@
 // Job records for any caller (METHOD 3): no call here requires anything.
 // What a record is, and how it is read and written, is in `codec`; here each call makes the level table that `codec` is lent.
+pub use codec::Counts;
 pub use codec::Reading;
 pub use codec::Request;
 pub use codec::Told;

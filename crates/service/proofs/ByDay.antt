@@ -19,6 +19,7 @@ use Rattle.road.proofs.Rows.{upto, all-of, upto-take, within-upto}
 use Rattle.daily.specs.declared.Daily.{Daily}
 use Rattle.daily.specs.Daily.{busiest, lastClass, countsOf, dailyTable, dailyBits, dailyOf}
 use Rattle.daily.proofs.Laws.{same-verdict, counts-within}
+use Rattle.codec.specs.declared.Counts.the-variants as counts
 use Rattle.codec.specs.declared.Request.{Request}
 use Rattle.codec.specs.declared.Request.the-variants as request
 use Rattle.codec.specs.declared.Reading.{Reading}
@@ -36,7 +37,7 @@ come r n store = deed (r .told) n (answerTold (r .told) (r .source) store)
 
 -- of the two calls, by one verdict
 same-call : (v : Verdict) (slot : ℕ) (d : Daily) (q : Source) (m n : ℕ) (store : List ℕ)
-    → Alike (come (judged v (request.PlaceDaily slot d) q) m store) (come (judged v (request.PlaceSource slot) q) n store)
+    → Alike (come (judged v (request.PlaceSource slot (counts.ByDay d)) q) m store) (come (judged v (request.PlaceSource slot counts.ByPeriod) q) n store)
 same-call verdict.Allowed slot d q m n store = (refl, refl)
 same-call (verdict.Refused why) slot d q m n store = (refl, refl)
 
@@ -66,16 +67,16 @@ module _ (v : List ℕ) (w : Within (layoutOf 6) v) where
       ap (λ (l : List ℕ). l ++ countsOf (dailyOf (drop 2 v))) (sym (all-of 12 (take 12 (drop 2 v)) n) ∙ upto-take 12 (drop 2 v))
 
   -- fit a record of kind 3
-  pub spelled-within : Within (layoutOf 3) (fieldsOf (request.PlaceSource (at v 1)) (sourceIn 6 v))
+  pub spelled-within : Within (layoutOf 3) (fieldsOf (request.PlaceSource (at v 1) counts.ByPeriod) (sourceIn 6 v))
   unfolding kindAt
   spelled-within =
       let road = within-upto (bitsBy roadTable) (bitsBy dailyTable ++ (2 ∷ [])) (drop 2 v) rest in
-      let counts = counts-within (dailyOf (drop 2 v)) class-small dtv-small in
-      (lit< tt, (within-at (layoutOf 6) v 1 w (omega arith), within-append (bitsBy roadTable) (upto (at (drop 2 v)) 12) (bitsBy trafficTable) (countsOf (dailyOf (drop 2 v))) road counts))
+      let six = counts-within (dailyOf (drop 2 v)) class-small dtv-small in
+      (lit< tt, (within-at (layoutOf 6) v 1 w (omega arith), within-append (bitsBy roadTable) (upto (at (drop 2 v)) 12) (bitsBy trafficTable) (countsOf (dailyOf (drop 2 v))) road six))
 
   -- and are judged alike
   pub judged-alike : 1 ≤ dailyOf (drop 2 v) .dtv → dailyOf (drop 2 v) .dtv ≤ busiest
-      → verdictOf (callIn 6 v) (sourceIn 6 v) ≡ verdictOf (request.PlaceSource (at v 1)) (sourceIn 6 v)
+      → verdictOf (callIn 6 v) (sourceIn 6 v) ≡ verdictOf (request.PlaceSource (at v 1) counts.ByPeriod) (sourceIn 6 v)
   unfolding kindAt verdictOf
   judged-alike lo hi = ap (slotVerdict lastNamedSource (at v 1)) (same-verdict (dailyOf (drop 2 v)) (sourceIn 6 v) (class-small, (lo, hi)))
 
@@ -94,14 +95,14 @@ alike job store b e l z lo hi =
     let w = fields-within (layoutOf 6) job in
     let slot = at v 1 in
     let q = sourceIn 6 v in
-    let c : Request = request.PlaceSource slot in
+    let c : Request = request.PlaceSource slot counts.ByPeriod in
     let day : readOf job ≡ judged (verdictOf c q) (callIn 6 v) q =
     read-fields 6 job (lit< tt) l e z ∙ ap (λ (x : Verdict). judged x (callIn 6 v) q) (judged-alike v w lo hi) in
     let same : spelledOut job ≡ recordOf c q ++ [] = ap (λ (f : List ℕ). packed (layoutOf 3) (3 ∷ slot ∷ f)) (spelled v w) ∙ record-is c q in
-    let counts : readOf (spelledOut job) ≡ judged (verdictOf c q) c q = ap readOf same ∙ read-record c q [] (spelled-within v w) (λ i. lit< tt) refl in
+    let period : readOf (spelledOut job) ≡ judged (verdictOf c q) c q = ap readOf same ∙ read-record c q [] (spelled-within v w) (λ i. lit< tt) refl in
     let t = same-call (verdictOf c q) slot (dailyOf (drop 2 v)) q (extentOf job) (extentOf (spelledOut job)) store in
     let f = done-by job store (judged (verdictOf c q) (callIn 6 v) q) day in
-    let g = done-by (spelledOut job) store (judged (verdictOf c q) c q) counts in (
+    let g = done-by (spelledOut job) store (judged (verdictOf c q) c q) period in (
       ap (λ (x : Deed × List ℕ). x .0 .outcome) f ∙ t .0 ∙ sym (ap (λ (x : Deed × List ℕ). x .0 .outcome) g),
       ap (λ (x : Deed × List ℕ). x .1) f ∙ t .1 ∙ sym (ap (λ (x : Deed × List ℕ). x .1) g),
     )

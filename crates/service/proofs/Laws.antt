@@ -31,10 +31,9 @@ use Rattle.service.specs.Service.{callOf, slotIn, outcomeOf, answerTold,
 real : (r : Request) (s : Source) → length (s .traffic) ≡ 3 → RealCall (callOf r s)
 real (request.PlaceReceiver slot x) s e = tt
 real (request.WithdrawReceiver slot) s e = tt
-real (request.PlaceSource slot) s e = e
+real (request.PlaceSource slot counts) s e = e
 real (request.WithdrawSource slot) s e = tt
 real (request.Ask slot) s e = tt
-real (request.PlaceDaily slot d) s e = e
 
 abbrev at : Outcome → ℕ → Deed
 at o n = record { outcome = o; extent = n }
@@ -45,10 +44,9 @@ module _ (job store : List ℕ) where
   answer-damaged (told.Refused why) s d = on-damaged (λ (b : Book). refuse why) store d
   answer-damaged (told.Request (request.PlaceReceiver j r)) s d = on-damaged (placeReceiver j r) store d
   answer-damaged (told.Request (request.WithdrawReceiver j)) s d = on-damaged (withdrawReceiver j) store d
-  answer-damaged (told.Request (request.PlaceSource i)) s d = on-damaged (placeSource i s) store d
+  answer-damaged (told.Request (request.PlaceSource i counts)) s d = on-damaged (placeSource i s) store d
   answer-damaged (told.Request (request.WithdrawSource i)) s d = on-damaged (withdrawSource i) store d
   answer-damaged (told.Request (request.Ask j)) s d = on-damaged (askReceiver j) store d
-  answer-damaged (told.Request (request.PlaceDaily i f)) s d = on-damaged (placeSource i s) store d
 
   pub on-damage : damaged store ≡ true → deed (told.Refused Damaged) (extentOf job) (answer.Refused Damaged, store) ≡ doneTo job store
   unfolding doneTo

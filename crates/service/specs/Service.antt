@@ -44,19 +44,17 @@ outcomePlace o = placeBy (outcomeRefusal o)
 abbrev pub callOf : Request → Source → Call
 callOf (request.PlaceReceiver slot r) s = PlaceReceiver slot r
 callOf (request.WithdrawReceiver slot) s = WithdrawReceiver slot
-callOf (request.PlaceSource slot) s = PlaceSource slot s
+callOf (request.PlaceSource slot counts) s = PlaceSource slot s
 callOf (request.WithdrawSource slot) s = WithdrawSource slot
 callOf (request.Ask slot) s = Ask slot
-callOf (request.PlaceDaily slot d) s = PlaceSource slot s
 
 -- its slot
 abbrev pub slotIn : Request → ℕ
 slotIn (request.PlaceReceiver slot r) = slot
 slotIn (request.WithdrawReceiver slot) = slot
-slotIn (request.PlaceSource slot) = slot
+slotIn (request.PlaceSource slot counts) = slot
 slotIn (request.WithdrawSource slot) = slot
 slotIn (request.Ask slot) = slot
-slotIn (request.PlaceDaily slot d) = slot
 
 -- an answer of the book with the slot that was asked
 abbrev pub outcomeOf : ℕ → Answer → Outcome

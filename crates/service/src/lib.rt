@@ -33,10 +33,9 @@ fn slot(call: Request) -> u16
     match call {
         Request::PlaceReceiver(slot, _) => slot,
         Request::WithdrawReceiver(slot) => slot,
-        Request::PlaceSource(slot) => slot,
+        Request::PlaceSource(slot, _) => slot,
         Request::WithdrawSource(slot) => slot,
         Request::Ask(slot) => slot,
-        Request::PlaceDaily(slot, _) => slot,
     }
 }
 
@@ -59,10 +58,9 @@ fn perform(steps: &[u32; 1000], store: &mut [u8], call: Request, source: Source)
     match call {
         Request::PlaceReceiver(slot, r) => undamaged::place_receiver(steps, store, slot, r),
         Request::WithdrawReceiver(slot) => undamaged::withdraw_receiver(store, slot),
-        Request::PlaceSource(slot) => undamaged::place_source(steps, store, slot, source),
+        Request::PlaceSource(slot, _) => undamaged::place_source(steps, store, slot, source),
         Request::WithdrawSource(slot) => undamaged::withdraw_source(steps, store, slot),
         Request::Ask(slot) => undamaged::ask(steps, store, slot),
-        Request::PlaceDaily(slot, _) => undamaged::place_source(steps, store, slot, source),
     }
 }
 

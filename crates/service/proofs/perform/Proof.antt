@@ -39,12 +39,6 @@ enum-known-call-5 c = search needs
 ask-requires : tie.Need-ask-requires
 ask-requires c κs = search needs
 
-enum-known-call-6 : tie.Need-enum-known-call-6
-enum-known-call-6 c = search needs
-
-place-source-requires-2 : tie.Need-place-source-requires-2
-place-source-requires-2 c κs = search needs
-
 same-length : tie.Need-same-length
 same-length c = search needs
 
@@ -100,17 +94,6 @@ returns-5 c =
     ∙ on-sound (askReceiver (v .0 .0)) (start .args .store .now) (start .pre .1)
     ∙ ap (λ (r : Request). perform (callOf r (start .args .source)) (start .args .store .now)) (sym (v .1))
 
-same-length-6 : tie.Need-same-length-6
-same-length-6 c = search needs
-
-returns-6 : tie.Need-returns-6
-returns-6 c =
-    let start = c .before .before .before .before .before .before .before .before in
-    let v = c .before .before .before .before .before .call6 .given in
-    c .before .before .place-source2 .ensures .0
-    ∙ on-sound (placeSource (v .0 .0) (start .args .source)) (start .args .store .now) (start .pre .1)
-    ∙ ap (λ (r : Request). perform (callOf r (start .args .source)) (start .args .store .now)) (sym (v .1))
-
 pub perform-spec : {M : Type 1} → statement M
 perform-spec =
     tie.close
@@ -125,8 +108,6 @@ perform-spec =
     withdraw-source-requires
     enum-known-call-5
     ask-requires
-    enum-known-call-6
-    place-source-requires-2
     same-length
     returns
     same-length-2
@@ -136,6 +117,4 @@ perform-spec =
     same-length-4
     returns-4
     same-length-5
-    returns-5
-    same-length-6
-    returns-6)
+    returns-5)

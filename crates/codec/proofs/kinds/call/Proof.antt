@@ -12,7 +12,8 @@ use Rattle.road.specs.Fields.{receiverTable}
 use Rattle.road.proofs.Rows.{upto-take}
 use Rattle.daily.specs.declared.Daily.{Daily}
 use Rattle.daily.specs.Daily.{dailyBits, dailyOf}
-use Rattle.codec.specs.declared.Request.the-variants.{PlaceReceiver, PlaceDaily}
+use Rattle.codec.specs.declared.Counts.the-variants.{ByDay}
+use Rattle.codec.specs.declared.Request.the-variants.{PlaceReceiver, PlaceSource}
 use Rattle.codec.specs.Kinds.{receiverSlotBits, sourceSlotBits, at, kindAt, layoutOf, callIn}
 use Rattle.codec.proofs.Laws.{slot-there, slot-fits, part-there, part-fits, table-fits, ask-else}
 use borrow.Author.Needs.{needs}
@@ -81,8 +82,8 @@ returns-5 : tie.Need-returns-5
 unfolding kindAt
 returns-5 c =
     let v = now (c .before .before .before .before .before .args .v) in
-    ap (λ (d : Daily). PlaceDaily (at v 1) d) (c .daily-of .ensures)
-    ∙ ap (λ (w : List ℕ). PlaceDaily (at v 1) (dailyOf w)) (upto-take 14 (drop 2 v))
+    ap (λ (d : Daily). PlaceSource (at v 1) (ByDay d)) (c .daily-of .ensures)
+    ∙ ap (λ (w : List ℕ). PlaceSource (at v 1) (ByDay (dailyOf w))) (upto-take 14 (drop 2 v))
     ∙ ap (λ (k : ℕ). callIn k v) (sym (c .before .before .match .keys5))
 
 returns-6 : tie.Need-returns-6

@@ -1,10 +1,8 @@
--- `fields_of` joins the fields of each call. The leftover bits of a receiver and of a daily figure are among the zeros after the fields.
+-- `fields_of` joins the fields of each call. A receiver's leftover bits are among the zeros after its fields.
 -- Assumes nothing.
 use Prim.Native.Nat.{ℕ}
 use mathlib.Core.Path.{sym, ap, _∙_}
 use mathlib.Core.List.{List, _∷_}
-use native.Mathlib.Omega.{arith}
-use lib.ListN.{length, take}
 use Rattle.codec.specs.declared.Request.{Request}
 use Rattle.codec.specs.Kinds.{fieldsOf}
 use Rattle.codec.specs.Inner.{filled}
@@ -36,8 +34,11 @@ join-requires-2 c κs = search needs
 enum-known-call-3 : tie.Need-enum-known-call-3
 enum-known-call-3 c = search needs
 
-source-values-requires : tie.Need-source-values-requires
-source-values-requires c κs = search needs
+source-fields-requires : tie.Need-source-fields-requires
+source-fields-requires c κs = search needs
+
+enum-known-call-4 : tie.Need-enum-known-call-4
+enum-known-call-4 c = search needs
 
 slice-aggregate-join-3 : tie.Need-slice-aggregate-join-3
 slice-aggregate-join-3 c = search needs
@@ -45,38 +46,14 @@ slice-aggregate-join-3 c = search needs
 join-requires-3 : tie.Need-join-requires-3
 join-requires-3 c κs = search needs
 
-enum-known-call-4 : tie.Need-enum-known-call-4
-enum-known-call-4 c = search needs
+enum-known-call-5 : tie.Need-enum-known-call-5
+enum-known-call-5 c = search needs
 
 slice-aggregate-join-4 : tie.Need-slice-aggregate-join-4
 slice-aggregate-join-4 c = search needs
 
 join-requires-4 : tie.Need-join-requires-4
 join-requires-4 c κs = search needs
-
-enum-known-call-5 : tie.Need-enum-known-call-5
-enum-known-call-5 c = search needs
-
-slice-aggregate-join-5 : tie.Need-slice-aggregate-join-5
-slice-aggregate-join-5 c = search needs
-
-join-requires-5 : tie.Need-join-requires-5
-join-requires-5 c κs = search needs
-
-enum-known-call-6 : tie.Need-enum-known-call-6
-enum-known-call-6 c = search needs
-
-values-requires : tie.Need-values-requires
-values-requires c κs = search needs
-
-array-share-prefix-fields : tie.Need-array-share-prefix-fields
-array-share-prefix-fields c = search needs
-
-slice-aggregate-join-6 : tie.Need-slice-aggregate-join-6
-slice-aggregate-join-6 c = ap (λ (v : List ℕ). length (take 14 v)) (sym (c .before .values .ensures))
-
-join-requires-6 : tie.Need-join-requires-6
-join-requires-6 c κs = omega (arith, ap (λ (v : List ℕ). length (take 14 v)) (c .before .values .ensures))
 
 returns : tie.Need-returns
 unfolding filled
@@ -93,29 +70,19 @@ returns-2 c =
 
 returns-3 : tie.Need-returns-3
 returns-3 c =
-    let a = c .before .before .before .before .before .before .args in
-    let k = c .before .before .before .before .call3 .given in
-    c .join3 .ensures ∙ ap (λ (l : List ℕ). filled (3 ∷ k .0 .0 ∷ l)) (c .before .before .source-values .ensures)
-    ∙ ap (λ (x : Request). filled (fieldsOf x (a .source))) (sym (k .1))
+    let d = c .before .before in
+    let a = d .before .before .args in
+    c .source-fields .ensures ∙ ap (λ (x : Request). filled (fieldsOf x (a .source))) (sym (d .call3 .given .1))
 
 returns-4 : tie.Need-returns-4
 returns-4 c =
     let a = c .before .before .before .before .before .args in
-    c .join4 .ensures ∙ ap (λ (x : Request). filled (fieldsOf x (a .source))) (sym (c .before .before .before .call4 .given .1))
+    c .join3 .ensures ∙ ap (λ (x : Request). filled (fieldsOf x (a .source))) (sym (c .before .before .before .call4 .given .1))
 
 returns-5 : tie.Need-returns-5
 returns-5 c =
     let a = c .before .before .before .before .before .args in
-    c .join5 .ensures ∙ ap (λ (x : Request). filled (fieldsOf x (a .source))) (sym (c .before .before .before .call5 .given .1))
-
-returns-6 : tie.Need-returns-6
-unfolding filled
-returns-6 c =
-    let d = c .before .before .before .before in
-    let a = d .before .before .args in
-    c .join6 .ensures
-    ∙ ap (λ (v : List ℕ). filled (6 ∷ d .call6 .given .0 .0 ∷ take 14 v)) (c .before .before .values .ensures)
-    ∙ ap (λ (x : Request). filled (fieldsOf x (a .source))) (sym (d .call6 .given .1))
+    c .join4 .ensures ∙ ap (λ (x : Request). filled (fieldsOf x (a .source))) (sym (c .before .before .before .call5 .given .1))
 
 pub fields-of-spec : {M : Type 1} → statement M
 fields-of-spec =
@@ -129,23 +96,15 @@ fields-of-spec =
     slice-aggregate-join-2
     join-requires-2
     enum-known-call-3
-    source-values-requires
+    source-fields-requires
+    enum-known-call-4
     slice-aggregate-join-3
     join-requires-3
-    enum-known-call-4
+    enum-known-call-5
     slice-aggregate-join-4
     join-requires-4
-    enum-known-call-5
-    slice-aggregate-join-5
-    join-requires-5
-    enum-known-call-6
-    values-requires
-    array-share-prefix-fields
-    slice-aggregate-join-6
-    join-requires-6
     returns
     returns-2
     returns-3
     returns-4
-    returns-5
-    returns-6)
+    returns-5)

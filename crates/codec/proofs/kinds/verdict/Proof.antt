@@ -26,8 +26,8 @@ judge-slot-requires-2 c κs = search needs
 enum-known-call-3 : tie.Need-enum-known-call-3
 enum-known-call-3 c = search needs
 
-judge-source-requires : tie.Need-judge-source-requires
-judge-source-requires c κs = search needs
+judge-counts-requires : tie.Need-judge-counts-requires
+judge-counts-requires c κs = search needs
 
 judge-slot-requires-3 : tie.Need-judge-slot-requires-3
 judge-slot-requires-3 c κs = search needs
@@ -44,15 +44,6 @@ enum-known-call-5 c = search needs
 judge-slot-requires-5 : tie.Need-judge-slot-requires-5
 judge-slot-requires-5 c κs = search needs
 
-enum-known-call-6 : tie.Need-enum-known-call-6
-enum-known-call-6 c = search needs
-
-judge-requires : tie.Need-judge-requires
-judge-requires c κs = search needs
-
-judge-slot-requires-6 : tie.Need-judge-slot-requires-6
-judge-slot-requires-6 c κs = search needs
-
 returns : tie.Need-returns
 unfolding verdictOf
 returns c =
@@ -67,7 +58,7 @@ returns-2 c =
 returns-3 : tie.Need-returns-3
 unfolding verdictOf
 returns-3 c =
-    c .judge-slot3 .ensures ∙ ap (slotVerdict lastNamedSource (c .before .before .before .call3 .given .0 .0)) (c .before .judge-source .ensures)
+    c .judge-slot3 .ensures ∙ ap (slotVerdict lastNamedSource (c .before .before .before .call3 .given .0 .0)) (c .before .judge-counts .ensures)
     ∙ ap (λ (x : Request). verdictOf x (c .before .before .before .before .before .args .source)) (sym (c .before .before .before .call3 .given .1))
 
 returns-4 : tie.Need-returns-4
@@ -80,12 +71,6 @@ unfolding verdictOf
 returns-5 c =
     c .judge-slot5 .ensures ∙ ap (λ (x : Request). verdictOf x (c .before .before .before .before .args .source)) (sym (c .before .before .call5 .given .1))
 
-returns-6 : tie.Need-returns-6
-unfolding verdictOf
-returns-6 c =
-    c .judge-slot6 .ensures ∙ ap (slotVerdict lastNamedSource (c .before .before .before .call6 .given .0 .0)) (c .before .judge .ensures)
-    ∙ ap (λ (x : Request). verdictOf x (c .before .before .before .before .before .args .source)) (sym (c .before .before .before .call6 .given .1))
-
 pub verdict-spec : {M : Type 1} → statement M
 verdict-spec =
     tie.close
@@ -96,18 +81,14 @@ verdict-spec =
     enum-known-call-2
     judge-slot-requires-2
     enum-known-call-3
-    judge-source-requires
+    judge-counts-requires
     judge-slot-requires-3
     enum-known-call-4
     judge-slot-requires-4
     enum-known-call-5
     judge-slot-requires-5
-    enum-known-call-6
-    judge-requires
-    judge-slot-requires-6
     returns
     returns-2
     returns-3
     returns-4
-    returns-5
-    returns-6)
+    returns-5)

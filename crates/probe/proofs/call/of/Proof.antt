@@ -3,7 +3,8 @@
 use Prim.Native.Nat.{ℕ}
 use mathlib.Core.Path.{sym, ap, _∙_}
 use denote.Ref.{now}
-use Rattle.codec.specs.declared.Request.the-variants.{PlaceReceiver, WithdrawReceiver, PlaceSource, WithdrawSource, Ask, PlaceDaily}
+use Rattle.codec.specs.declared.Counts.the-variants.{ByPeriod, ByDay}
+use Rattle.codec.specs.declared.Request.the-variants.{PlaceReceiver, WithdrawReceiver, PlaceSource, WithdrawSource, Ask}
 use Rattle.probe.specs.Raw.{one, two, rawReceiver, rawDaily, callBy}
 use Rattle.probe.proofs.Laws.{ask-else}
 use borrow.Author.Needs.{needs}
@@ -39,7 +40,7 @@ returns-3 : tie.Need-returns-3
 unfolding callBy
 returns-3 c =
     let s = now (c .before .before .before .args .raw) in
-    ap PlaceSource (c .before .before .two .ensures) ∙ ap (λ (k : ℕ). callBy k (two s 1) (rawReceiver s) (rawDaily s)) (sym (c .match .keys3))
+    ap (λ (n : ℕ). PlaceSource n ByPeriod) (c .before .before .two .ensures) ∙ ap (λ (k : ℕ). callBy k (two s 1) (rawReceiver s) (rawDaily s)) (sym (c .match .keys3))
 
 returns-4 : tie.Need-returns-4
 unfolding callBy
@@ -51,7 +52,7 @@ returns-5 : tie.Need-returns-5
 unfolding callBy
 returns-5 c =
     let s = now (c .before .before .before .before .args .raw) in
-    (λ i. PlaceDaily (c .before .before .before .two .ensures i) (c .daily .ensures i))
+    (λ i. PlaceSource (c .before .before .before .two .ensures i) (ByDay (c .daily .ensures i)))
     ∙ ap (λ (k : ℕ). callBy k (two s 1) (rawReceiver s) (rawDaily s)) (sym (c .before .match .keys5))
 
 returns-6 : tie.Need-returns-6
