@@ -39,11 +39,11 @@ call-within (WithdrawReceiver slot) s e = (lit< tt, (omega (arith, slot-allowed 
 call-within (PlaceSource slot ByPeriod) s e =
     let a = slot-allowed lastNamedSource slot (sourceVerdict s) e in
     (lit< tt, (omega (arith, a .0), source-within s (a .1)))
-call-within (WithdrawSource slot) s e = (lit< tt, (omega (arith, slot-allowed lastNamedSource slot Allowed e .0), (lit< tt, tt)))
-call-within (Ask slot) s e = (lit< tt, (omega (arith, slot-allowed lastNamedReceiver slot Allowed e .0), (lit< tt, tt)))
 call-within (PlaceSource slot (ByDay d)) s e =
     let a = slot-allowed lastNamedSource slot (dailyVerdict d s) e in
     (lit< tt, (omega (arith, a .0), within-append dailyBits (dailyFields d s) (2 ∷ []) (0 ∷ []) (daily-within d s (a .1)) (lit< tt, tt)))
+call-within (WithdrawSource slot) s e = (lit< tt, (omega (arith, slot-allowed lastNamedSource slot Allowed e .0), (lit< tt, tt)))
+call-within (Ask slot) s e = (lit< tt, (omega (arith, slot-allowed lastNamedReceiver slot Allowed e .0), (lit< tt, tt)))
 
 -- ---- from a call to its fields and back
 
@@ -52,53 +52,53 @@ unfolding kindAt
 call-length (PlaceReceiver slot r) s = refl
 call-length (WithdrawReceiver slot) s = refl
 call-length (PlaceSource slot ByPeriod) s = refl
+call-length (PlaceSource slot (ByDay d)) s = refl
 call-length (WithdrawSource slot) s = refl
 call-length (Ask slot) s = refl
-call-length (PlaceSource slot (ByDay d)) s = refl
 
 pub call-listed : (c : Request) → 0 < size (layoutOf (kindNumber c))
 unfolding kindAt
 call-listed (PlaceReceiver slot r) = lit< tt
 call-listed (WithdrawReceiver slot) = lit< tt
 call-listed (PlaceSource slot ByPeriod) = lit< tt
+call-listed (PlaceSource slot (ByDay d)) = lit< tt
 call-listed (WithdrawSource slot) = lit< tt
 call-listed (Ask slot) = lit< tt
-call-listed (PlaceSource slot (ByDay d)) = lit< tt
 
 pub call-kind : (c : Request) (s : Source) → at (fieldsOf c s) 0 ≡ kindNumber c
 call-kind (PlaceReceiver slot r) s = refl
 call-kind (WithdrawReceiver slot) s = refl
 call-kind (PlaceSource slot ByPeriod) s = refl
+call-kind (PlaceSource slot (ByDay d)) s = refl
 call-kind (WithdrawSource slot) s = refl
 call-kind (Ask slot) s = refl
-call-kind (PlaceSource slot (ByDay d)) s = refl
 
 pub call-leftover : (c : Request) (s : Source) → leftoverOf (kindNumber c) (fieldsOf c s) ≡ 0
 unfolding kindAt
 call-leftover (PlaceReceiver slot r) s = refl
 call-leftover (WithdrawReceiver slot) s = refl
 call-leftover (PlaceSource slot ByPeriod) s = refl
+call-leftover (PlaceSource slot (ByDay d)) s = refl
 call-leftover (WithdrawSource slot) s = refl
 call-leftover (Ask slot) s = refl
-call-leftover (PlaceSource slot (ByDay d)) s = refl
 
 pub call-again : (c : Request) (s : Source) → callIn (kindNumber c) (fieldsOf c s) ≡ c
 unfolding kindAt
 call-again (PlaceReceiver slot r) s = refl
 call-again (WithdrawReceiver slot) s = refl
 call-again (PlaceSource slot ByPeriod) s = refl
+call-again (PlaceSource slot (ByDay d)) s = refl
 call-again (WithdrawSource slot) s = refl
 call-again (Ask slot) s = refl
-call-again (PlaceSource slot (ByDay d)) s = refl
 
 pub source-again : (c : Request) (s : Source) → length (s .traffic) ≡ 3 → sourceIn (kindNumber c) (fieldsOf c s) ≡ sourceWith c s
 unfolding kindAt
 source-again (PlaceReceiver slot r) s h = refl
 source-again (WithdrawReceiver slot) s h = refl
 source-again (PlaceSource slot ByPeriod) s h = rows.source-again s h
+source-again (PlaceSource slot (ByDay d)) s h = refl
 source-again (WithdrawSource slot) s h = refl
 source-again (Ask slot) s h = refl
-source-again (PlaceSource slot (ByDay d)) s h = refl
 
 -- a source counts only beside a call that places it
 pub verdict-with : (c : Request) (s : Source) → verdictOf c (sourceWith c s) ≡ verdictOf c s
@@ -106,9 +106,9 @@ unfolding verdictOf dailyVerdict
 verdict-with (PlaceReceiver slot r) s = refl
 verdict-with (WithdrawReceiver slot) s = refl
 verdict-with (PlaceSource slot ByPeriod) s = refl
+verdict-with (PlaceSource slot (ByDay d)) s = refl
 verdict-with (WithdrawSource slot) s = refl
 verdict-with (Ask slot) s = refl
-verdict-with (PlaceSource slot (ByDay d)) s = refl
 
 -- ---- the fields of a call in the writer's array
 

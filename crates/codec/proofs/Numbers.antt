@@ -16,6 +16,6 @@ unfolding verdictOf
 verdict-by (PlaceReceiver slot r) s = slot-by lastNamedReceiver slot (receiverVerdict r) (receiver-by r)
 verdict-by (WithdrawReceiver slot) s = slot-by lastNamedReceiver slot verdict.Allowed tt
 verdict-by (PlaceSource slot ByPeriod) s = slot-by lastNamedSource slot (sourceVerdict s) (source-by s)
+verdict-by (PlaceSource slot (ByDay d)) s = slot-by lastNamedSource slot (dailyVerdict d s) (daily-by d s)
 verdict-by (WithdrawSource slot) s = slot-by lastNamedSource slot verdict.Allowed tt
 verdict-by (Ask slot) s = slot-by lastNamedReceiver slot verdict.Allowed tt
-verdict-by (PlaceSource slot (ByDay d)) s = slot-by lastNamedSource slot (dailyVerdict d s) (daily-by d s)

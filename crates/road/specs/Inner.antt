@@ -21,25 +21,6 @@ use Rattle.road.specs.declared.Pair.{Pair}
 use Rattle.road.specs.declared.Pair.the-variants.{Heard, Barred}
 use Rattle.road.specs.Reach.{lengthTerm, wallsTerm, distanceTerm, groundTerm, weatherTerm, weatherOf, energyShare, tooLoud}
 
--- the same road with other traffic
-abbrev pub withTraffic : List Traffic → Source → Source
-withTraffic t s =
-    record {
-      x = s .x;
-      y = s .y;
-      length = s .length;
-      lanes = s .lanes;
-      car = s .car;
-      truck = s .truck;
-      surface = s .surface;
-      gradient = s .gradient;
-      reflection = s .reflection;
-      walls = s .walls;
-      height = s .height;
-      spacing = s .spacing;
-      traffic = t;
-    }
-
 -- what speed gives: one car's level, and how much more energy than the car's a truck has, of which p takes its part
 abbrev pub paceOf : Source → Pace
 paceOf s = record {

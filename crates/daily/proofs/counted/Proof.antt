@@ -5,7 +5,7 @@ use mathlib.Core.Path.{ap, _∙_}
 use mathlib.Core.List.{List, [], _∷_, _++_}
 use native.Mathlib.Omega.{arith}
 use Rattle.road.specs.Fields.{roadTable, sourceOf, valuesBy}
-use Rattle.road.specs.Inner.{withTraffic}
+use Rattle.road.proofs.Periods.{with}
 use Rattle.daily.specs.Daily.{countsBy}
 use Rattle.daily.proofs.Laws.{small-row}
 use borrow.Author.Needs.{needs}
@@ -57,7 +57,7 @@ returns c =
     let evening = night .before in
     let day = evening .before in
     let a = day .before .before .args in
-    (λ i. withTraffic (day .period .ensures i ∷ evening .period2 .ensures i ∷ night .period3 .ensures i ∷ []) (a .s))
+    (λ i. with (a .s) (day .period .ensures i ∷ evening .period2 .ensures i ∷ night .period3 .ensures i ∷ []))
     ∙ ap (λ (r : List ℕ). sourceOf (valuesBy roadTable (a .s) ++ countsBy (a .d .dtv) r)) (day .before .row-of .ensures)
 
 pub counted-spec : {M : Type 1} → statement M

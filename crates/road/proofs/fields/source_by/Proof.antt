@@ -2,7 +2,7 @@
 -- Assumes nothing.
 use mathlib.Core.List.{[], _∷_}
 use borrow.Author.Needs.{needs}
-use Rattle.road.specs.Inner.{withTraffic}
+use Rattle.road.proofs.Periods.{with}
 use Rattle.road.proofs.fields.source_by.Statement.{statement}
 use Rattle.road.proofs.fields.source_by.Tie as tie
 
@@ -24,9 +24,7 @@ returns c =
     let night = r .before in
     let evening = night .before in
     let day = evening .before in
-    λ i. withTraffic
-    (day .traffic-of .ensures i ∷ evening .traffic-of2 .ensures i ∷ night .traffic-of3 .ensures i ∷ [])
-    (r .road-of .ensures i)
+    λ i. with (r .road-of .ensures i) (day .traffic-of .ensures i ∷ evening .traffic-of2 .ensures i ∷ night .traffic-of3 .ensures i ∷ [])
 
 pub source-by-spec : {M : Type 1} → statement M
 source-by-spec =
