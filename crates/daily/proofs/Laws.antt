@@ -22,7 +22,7 @@ use Rattle.road.proofs.Fit.{past, source-within}
 use Rattle.road.proofs.Rows.{record-fit, fit-wider}
 use Rattle.road.proofs.Judged.{outside, inside, road-first, ByFields, outside-by, source-by}
 use Rattle.daily.specs.declared.Daily.{Daily}
-use Rattle.daily.specs.Daily.{tableTwo, countsOf, counted, lastClass, dailyTable, dailyBits, dailyFields, Figured, Promises, dailyVerdict}
+use Rattle.daily.specs.Daily.{tableTwo, countsOf, counted, lastClass, dailyTable, dailyBits, dailyFields, dailyOf, Figured, Promises, dailyVerdict}
 
 -- ---- table 2
 
@@ -81,18 +81,18 @@ module _ (d : Daily) (h : d .class ≤ lastClass) where
 -- ---- the values of a road and its daily figure
 
 module _ (v : List ℕ) (w : Within dailyBits v) where
-  pub figures-there : length v ≡ 14
+  pub figures-there : length v ≡ length dailyBits
   figures-there = within-length dailyBits v w
 
-  pub class-fits : getD v 12 0 < 4
-  class-fits = within-at dailyBits v 12 w (omega arith)
+  pub class-fits : dailyOf v .class < 4
+  class-fits = within-at dailyBits v (length roadTable) w (omega arith)
 
-  pub dtv-fits : getD v 13 0 < 2 ^ 18
-  dtv-fits = within-at dailyBits v 13 w (omega arith)
+  pub dtv-fits : dailyOf v .dtv < 2 ^ 18
+  dtv-fits = within-at dailyBits v (suc (length roadTable)) w (omega arith)
 
   pub road-fits : (length roadTable ≤ length v) × Fit (slotBitsBy roadTable) 0 v
   road-fits =
-      let e : take 14 v ≡ v = take-all 14 v (omega (arith, figures-there)) in
+      let e : take (length dailyBits) v ≡ v = take-all (length dailyBits) v (omega (arith, figures-there)) in
       let f = record-fit dailyBits v (subst⁻¹ (Within dailyBits) e w) in
       (omega (arith, figures-there), fit-wider roadTable (bitsBy dailyTable) 0 v refl f)
 

@@ -1,6 +1,6 @@
 -- Traffic by the daily figure (METHOD 4): the counts that a class of road and its vehicles a day stand for, by VBUS table 2, and which
 -- of them are allowed.
-use Prim.Native.Nat.{ℕ, _*_, _-_, _≤_, _<_}
+use Prim.Native.Nat.{ℕ, suc, _*_, _-_, _≤_, _<_}
 use mathlib.Core.Path.{_≡_}
 use mathlib.Core.List.{List, [], _∷_, _++_}
 use lib.ListN.{length, getD}
@@ -67,7 +67,7 @@ dailyFields d s = valuesBy roadTable s ++ valuesBy dailyTable d
 
 -- and the way back
 abbrev pub dailyOf : List ℕ → Daily
-dailyOf v = record { class = getD v 12 0; dtv = getD v 13 0 }
+dailyOf v = record { class = getD v (length roadTable) 0; dtv = getD v (suc (length roadTable)) 0 }
 
 -- ---- the verdict: the fields of the road, then the class and the daily figure, then what is judged of the source that they stand for
 

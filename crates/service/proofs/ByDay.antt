@@ -1,6 +1,6 @@
 -- A record by the daily figure comes to what the record of its counts comes to.
 -- Assumes nothing.
-use Prim.Native.Nat.{ℕ, _^_, _≤_, _<_}
+use Prim.Native.Nat.{ℕ, suc, _^_, _≤_, _<_}
 use mathlib.Core.Path.{_≡_, refl, sym, ap, _∙_}
 use mathlib.Core.List.{List, [], _∷_, _++_, append-nil}
 use native.Mathlib.Omega.{arith}
@@ -54,17 +54,17 @@ module _ (v : List ℕ) (w : Within (layoutOf 6) v) where
   rest = part-within kindBits sourceSlotBits (dailyBits ++ (2 ∷ [])) v w
 
   pub class-small : dailyOf (drop 2 v) .class ≤ lastClass
-  class-small = omega (arith, within-at (dailyBits ++ (2 ∷ [])) (drop 2 v) 12 rest (omega arith))
+  class-small = omega (arith, within-at (dailyBits ++ (2 ∷ [])) (drop 2 v) (length roadTable) rest (omega arith))
 
   dtv-small : dailyOf (drop 2 v) .dtv < 2 ^ 18
-  dtv-small = within-at (dailyBits ++ (2 ∷ [])) (drop 2 v) 13 rest (omega arith)
+  dtv-small = within-at (dailyBits ++ (2 ∷ [])) (drop 2 v) (suc (length roadTable)) rest (omega arith)
 
   -- the fields of the source that they stand for
-  pub spelled : take 12 (drop 2 v) ++ countsOf (dailyOf (drop 2 v)) ≡ sourceFields (sourceIn 6 v)
+  pub spelled : take (length roadTable) (drop 2 v) ++ countsOf (dailyOf (drop 2 v)) ≡ sourceFields (sourceIn 6 v)
   unfolding kindAt
   spelled =
-      let n : length (take 12 (drop 2 v)) ≡ 12 = length-take-le 12 (drop 2 v) (omega (arith, within-length (dailyBits ++ (2 ∷ [])) (drop 2 v) rest)) in
-      ap (λ (l : List ℕ). l ++ countsOf (dailyOf (drop 2 v))) (sym (all-of 12 (take 12 (drop 2 v)) n) ∙ upto-take 12 (drop 2 v))
+      let n : length (take (length roadTable) (drop 2 v)) ≡ length roadTable = length-take-le (length roadTable) (drop 2 v) (omega (arith, within-length (dailyBits ++ (2 ∷ [])) (drop 2 v) rest)) in
+      ap (λ (l : List ℕ). l ++ countsOf (dailyOf (drop 2 v))) (sym (all-of (length roadTable) (take (length roadTable) (drop 2 v)) n) ∙ upto-take (length roadTable) (drop 2 v))
 
   -- fit a record of kind 3
   pub spelled-within : Within (layoutOf 3) (fieldsOf (request.PlaceSource (at v 1) counts.ByPeriod) (sourceIn 6 v))
@@ -72,7 +72,7 @@ module _ (v : List ℕ) (w : Within (layoutOf 6) v) where
   spelled-within =
       let road = within-upto (bitsBy roadTable) (bitsBy dailyTable ++ (2 ∷ [])) (drop 2 v) rest in
       let six = counts-within (dailyOf (drop 2 v)) class-small dtv-small in
-      (lit< tt, (within-at (layoutOf 6) v 1 w (omega arith), within-append (bitsBy roadTable) (upto (at (drop 2 v)) 12) (bitsBy trafficTable) (countsOf (dailyOf (drop 2 v))) road six))
+      (lit< tt, (within-at (layoutOf 6) v 1 w (omega arith), within-append (bitsBy roadTable) (upto (at (drop 2 v)) (length roadTable)) (bitsBy trafficTable) (countsOf (dailyOf (drop 2 v))) road six))
 
   -- and are judged alike
   pub judged-alike : 1 ≤ dailyOf (drop 2 v) .dtv → dailyOf (drop 2 v) .dtv ≤ busiest

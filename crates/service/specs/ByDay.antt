@@ -5,13 +5,14 @@ use mathlib.Core.Path.{_≡_}
 use mathlib.Core.List.{List, _∷_, _++_}
 use lib.ListN.{length, take, drop}
 use Rattle.layout.specs.Layout.{Bytes, size, fields, packed}
+use Rattle.road.specs.Fields.{roadTable}
 use Rattle.daily.specs.Daily.{busiest, countsOf, dailyOf}
 use Rattle.codec.specs.Kinds.{at, layoutOf, leftoverOf}
 use Rattle.codec.specs.Record.{kindOf}
 use Rattle.service.specs.declared.Deed.{Deed}
 use Rattle.service.specs.Service.{doneTo}
 
--- the numbers of a record of kind 6: its kind, its slot, twelve fields of the road, class and vehicles a day, and the leftover bits
+-- the numbers of a record of kind 6: its kind, its slot, the fields of the road, class and vehicles a day, and the leftover bits
 abbrev pub numbersOf : List ℕ → List ℕ
 numbersOf job = fields (layoutOf 6) job
 
@@ -19,7 +20,7 @@ numbersOf job = fields (layoutOf 6) job
 abbrev pub spelledOut : List ℕ → List ℕ
 spelledOut job =
     let v = numbersOf job in
-    packed (layoutOf 3) (3 ∷ at v 1 ∷ (take 12 (drop 2 v) ++ countsOf (dailyOf (drop 2 v))))
+    packed (layoutOf 3) (3 ∷ at v 1 ∷ (take (length roadTable) (drop 2 v) ++ countsOf (dailyOf (drop 2 v))))
 
 -- the same outcome, and the same bytes in the store
 abbrev pub Alike : Deed × List ℕ → Deed × List ℕ → Type 0

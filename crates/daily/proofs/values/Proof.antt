@@ -1,9 +1,10 @@
 -- `values` puts class and vehicles a day where the traffic of a source begins.
 -- Assumes nothing.
-use Prim.Native.Nat.{ℕ}
+use Prim.Native.Nat.{ℕ, suc}
 use mathlib.Core.Path.{ap}
 use mathlib.Core.List.{List}
-use lib.ListN.{set}
+use lib.ListN.{length, set}
+use Rattle.road.specs.Fields.{roadTable}
 use borrow.Author.Needs.{needs}
 use Rattle.daily.proofs.values.Statement.{statement}
 use Rattle.daily.proofs.values.Tie as tie
@@ -33,7 +34,7 @@ returns : tie.Need-returns
 returns c =
     let s = c .before .before in
     let d = s .before .args .d in
-    ap (λ (l : List ℕ). set (set l 12 (d .class)) 13 (d .dtv)) (s .source-values .ensures)
+    ap (λ (l : List ℕ). set (set l (length roadTable) (d .class)) (suc (length roadTable)) (d .dtv)) (s .source-values .ensures)
 
 pub values-spec : {M : Type 1} → statement M
 values-spec =

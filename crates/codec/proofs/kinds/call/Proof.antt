@@ -5,7 +5,7 @@ use mathlib.Core.Path.{refl, sym, ap, _∙_, subst}
 use mathlib.Core.List.{List, [], _∷_}
 use native.Mathlib.Omega.{arith}
 use denote.Ref.{now}
-use lib.ListN.{drop}
+use lib.ListN.{length, drop}
 use Rattle.layout.specs.Layout.{Within}
 use Rattle.road.specs.declared.Receiver.{Receiver}
 use Rattle.road.specs.Fields.{receiverTable}
@@ -83,7 +83,7 @@ unfolding kindAt
 returns-5 c =
     let v = now (c .before .before .before .before .before .args .v) in
     ap (λ (d : Daily). PlaceSource (at v 1) (ByDay d)) (c .daily-of .ensures)
-    ∙ ap (λ (w : List ℕ). PlaceSource (at v 1) (ByDay (dailyOf w))) (upto-take 14 (drop 2 v))
+    ∙ ap (λ (w : List ℕ). PlaceSource (at v 1) (ByDay (dailyOf w))) (upto-take (length dailyBits) (drop 2 v))
     ∙ ap (λ (k : ℕ). callIn k v) (sym (c .before .before .match .keys5))
 
 returns-6 : tie.Need-returns-6

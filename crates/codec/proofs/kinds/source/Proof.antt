@@ -4,7 +4,7 @@ use Prim.Native.Nat.{ℕ}
 use mathlib.Core.Path.{refl, sym, ap, _∙_, subst}
 use mathlib.Core.List.{List, [], _∷_}
 use denote.Ref.{now}
-use lib.ListN.{drop}
+use lib.ListN.{length, drop}
 use Rattle.layout.specs.Layout.{Within}
 use Rattle.road.specs.Fields.{sourceTable, sourceOf}
 use Rattle.road.proofs.Rows.{upto-take}
@@ -54,7 +54,7 @@ unfolding kindAt
 returns-2 c =
     let v = now (c .before .before .before .before .before .args .v) in
     c .source-of2 .ensures
-    ∙ ap (λ (w : List ℕ). counted (dailyOf w) (sourceOf w)) (upto-take 14 (drop 2 v))
+    ∙ ap (λ (w : List ℕ). counted (dailyOf w) (sourceOf w)) (upto-take (length dailyBits) (drop 2 v))
     ∙ ap (λ (k : ℕ). sourceIn k v) (sym (c .before .before .if2 .taken))
 
 blank-requires : tie.Need-blank-requires

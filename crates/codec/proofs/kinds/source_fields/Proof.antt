@@ -5,6 +5,7 @@ use mathlib.Core.Path.{sym, ap, _∙_}
 use mathlib.Core.List.{List, _∷_}
 use native.Mathlib.Omega.{arith}
 use lib.ListN.{length, take}
+use Rattle.daily.specs.Daily.{dailyBits}
 use Rattle.codec.specs.declared.Counts.{Counts}
 use Rattle.codec.specs.declared.Request.the-variants.{PlaceSource}
 use Rattle.codec.specs.Kinds.{fieldsOf}
@@ -35,10 +36,10 @@ array-share-prefix-fields : tie.Need-array-share-prefix-fields
 array-share-prefix-fields c = search needs
 
 slice-aggregate-join-2 : tie.Need-slice-aggregate-join-2
-slice-aggregate-join-2 c = ap (λ (v : List ℕ). length (take 14 v)) (sym (c .before .values .ensures))
+slice-aggregate-join-2 c = ap (λ (v : List ℕ). length (take (length dailyBits) v)) (sym (c .before .values .ensures))
 
 join-requires-2 : tie.Need-join-requires-2
-join-requires-2 c κs = omega (arith, ap (λ (v : List ℕ). length (take 14 v)) (c .before .values .ensures))
+join-requires-2 c κs = omega (arith, ap (λ (v : List ℕ). length (take (length dailyBits) v)) (c .before .values .ensures))
 
 returns : tie.Need-returns
 returns c =
@@ -54,7 +55,7 @@ returns-2 c =
     let t = c .before .before .before .before in
     let a = t .before .before .args in
     c .join2 .ensures
-    ∙ ap (λ (v : List ℕ). filled (6 ∷ a .slot ∷ take 14 v)) (c .before .before .values .ensures)
+    ∙ ap (λ (v : List ℕ). filled (6 ∷ a .slot ∷ take (length dailyBits) v)) (c .before .before .values .ensures)
     ∙ ap (λ (x : Counts). filled (fieldsOf (PlaceSource (a .slot) x) (a .source))) (sym (t .counts .given .1))
 
 pub source-fields-spec : {M : Type 1} → statement M
