@@ -10,7 +10,7 @@ use lib.Dec.{ltb}
 use borrow.Author.Tests.{ltb-true, ltb-false, lt-ltb}
 use Rattle.course.specs.declared.Piece.{Piece}
 use Rattle.course.specs.declared.Ends.{Ends}
-use Rattle.course.specs.Course.{square, cutAbove, lengthOf, pieceOf, firstHalf, secondHalf, long, cut, piecesBetween, Fits, Every, Promises}
+use Rattle.course.specs.Course.{square, cutAbove, lengthOf, onePiece, firstHalf, secondHalf, long, cut, piecesBetween, Fits, Every, Promises}
 use Rattle.course.proofs.Halves.{first-short, second-short}
 
 and-left : (a b : Bool) → (a && b) ≡ true → a ≡ true
@@ -38,7 +38,7 @@ module _ (far : Piece → ℕ) where
   unfolding cut
   cut-more n e h = rw (h, cut)
 
-  cut-none : (n : ℕ) (e : Ends) → long far e ≡ false → cut n far e ≡ pieceOf e ∷ []
+  cut-none : (n : ℕ) (e : Ends) → long far e ≡ false → cut n far e ≡ onePiece e ∷ []
   unfolding cut
   cut-none zero e h = refl
   cut-none (suc n) e h = rw (h, cut)
@@ -78,21 +78,21 @@ module _ (far : Piece → ℕ) where
       ∙ cut-more n e h
       ∙ ap₂ _++_ (same n _ (firstHalf e) (omega arith) (omega arith)) (same n _ (secondHalf e) (omega arith) (omega arith))
 
-  pub pieces-uncut : (e : Ends) → long far e ≡ false → piecesBetween far e ≡ pieceOf e ∷ []
+  pub pieces-uncut : (e : Ends) → long far e ≡ false → piecesBetween far e ≡ onePiece e ∷ []
   unfolding piecesBetween
   pieces-uncut e h = cut-none (lengthOf e) e h
 
-  rule : (e : Ends) → piecesBetween far e ≡ cond (long far e) (piecesBetween far (firstHalf e) ++ piecesBetween far (secondHalf e)) (pieceOf e ∷ [])
+  rule : (e : Ends) → piecesBetween far e ≡ cond (long far e) (piecesBetween far (firstHalf e) ++ piecesBetween far (secondHalf e)) (onePiece e ∷ [])
   rule e = go (long far e) refl
     where
-      go : (t : Bool) → long far e ≡ t → piecesBetween far e ≡ cond t (piecesBetween far (firstHalf e) ++ piecesBetween far (secondHalf e)) (pieceOf e ∷ [])
+      go : (t : Bool) → long far e ≡ t → piecesBetween far e ≡ cond t (piecesBetween far (firstHalf e) ++ piecesBetween far (secondHalf e)) (onePiece e ∷ [])
       go true h = pieces-cut e h
       go false h = pieces-uncut e h
 
   -- ---- what holds of the uncut pieces: shown for a road that is not long, and for a long one from its halves
 
   module _ (C : Ends → List Piece → Type 0)
-      (none : (e : Ends) → long far e ≡ false → C e (pieceOf e ∷ []))
+      (none : (e : Ends) → long far e ≡ false → C e (onePiece e ∷ []))
       (more : (e : Ends) (a b : List Piece) → long far e ≡ true → C (firstHalf e) a → C (secondHalf e) b → C e (a ++ b)) where
     induct : (n : ℕ) (e : Ends) → lengthOf e ≤ n → C e (cut n far e)
     induct zero e l = go (long far e) refl
@@ -119,11 +119,11 @@ module _ (far : Piece → ℕ) where
   every-append P [] b h l = l
   every-append P (p ∷ a) b h l = (h .0, every-append P a b (h .1) l)
 
-  uncut-fits : (e : Ends) → long far e ≡ false → square (2 * cutAbove) ≤ far (pieceOf e) → Fits (far (pieceOf e)) (pieceOf e)
-  unfolding long pieceOf
+  uncut-fits : (e : Ends) → long far e ≡ false → square (2 * cutAbove) ≤ far (onePiece e) → Fits (far (onePiece e)) (onePiece e)
+  unfolding long onePiece
   uncut-fits e h q = go (decLt cutAbove (lengthOf e))
     where
-      go : Dec (cutAbove < lengthOf e) → 4 * square (lengthOf e) ≤ far (pieceOf e)
+      go : Dec (cutAbove < lengthOf e) → 4 * square (lengthOf e) ≤ far (onePiece e)
       go (yes l) = ltb-false _ _ (and-right (ltb cutAbove (lengthOf e)) _ (lt-ltb _ _ l) h)
       go (no l) =
           let s : lengthOf e ≤ cutAbove = omega arith in

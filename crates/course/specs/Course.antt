@@ -33,8 +33,8 @@ unfoldable pub lengthOf : Ends → ℕ
 lengthOf e = rootOf (planBetween (e .x1) (e .y1) (e .x2) (e .y2))
 
 -- all of it as one piece
-unfoldable pub pieceOf : Ends → Piece
-pieceOf e = record { x = mean (e .x1) (e .x2); y = mean (e .y1) (e .y2); length = lengthOf e }
+unfoldable pub onePiece : Ends → Piece
+onePiece e = record { x = mean (e .x1) (e .x2); y = mean (e .y1) (e .y2); length = lengthOf e }
 
 -- it is cut at the middle
 unfoldable pub firstHalf : Ends → Ends
@@ -54,12 +54,12 @@ abbrev pub tooLong : ℕ → ℕ → Bool
 tooLong l q = ltb cutAbove l && ltb q (4 * square l)
 
 unfoldable pub long : (Piece → ℕ) → Ends → Bool
-long far e = tooLong (lengthOf e) (far (pieceOf e))
+long far e = tooLong (lengthOf e) (far (onePiece e))
 
 -- the uncut pieces, from the first end on; n is as often as a piece may be halved
 unfoldable pub cut : ℕ → (Piece → ℕ) → Ends → List Piece
-cut zero far e = pieceOf e ∷ []
-cut (suc n) far e = elim (long far e) [ true ↦ cut n far (firstHalf e) ++ cut n far (secondHalf e) | false ↦ pieceOf e ∷ [] ]
+cut zero far e = onePiece e ∷ []
+cut (suc n) far e = elim (long far e) [ true ↦ cut n far (firstHalf e) ++ cut n far (secondHalf e) | false ↦ onePiece e ∷ [] ]
 
 -- a half is shorter, so the length is as often as enough: `Promises` has the rule without n
 unfoldable pub piecesBetween : (Piece → ℕ) → Ends → List Piece
@@ -72,7 +72,7 @@ piecesOf far (Between e) = piecesBetween far e
 -- all of a road as one piece
 abbrev pub wholeOf : Course → Piece
 wholeOf (Uncut p) = p
-wholeOf (Between e) = pieceOf e
+wholeOf (Between e) = onePiece e
 
 -- ---- what is promised
 
@@ -88,7 +88,7 @@ Every P (p ∷ ps) = P p × Every P ps
 pub record Promises : Type 0 where
   -- the pieces of a long road are those of its first half and then of its second; a road that is not long is one piece
   pub rule : (far : Piece → ℕ) (e : Ends)
-      → piecesBetween far e ≡ cond (long far e) (piecesBetween far (firstHalf e) ++ piecesBetween far (secondHalf e)) (pieceOf e ∷ [])
+      → piecesBetween far e ≡ cond (long far e) (piecesBetween far (firstHalf e) ++ piecesBetween far (secondHalf e)) (onePiece e ∷ [])
   -- the halves of a long road are shorter than it
   pub first-falls : (far : Piece → ℕ) (e : Ends) → long far e ≡ true → lengthOf (firstHalf e) < lengthOf e
   pub second-falls : (far : Piece → ℕ) (e : Ends) → long far e ≡ true → lengthOf (secondHalf e) < lengthOf e
@@ -102,3 +102,7 @@ pub record Mapped (e : Ends) : Type 0 where
   pub y1 : e .y1 < 2 ^ 24
   pub x2 : e .x2 < 2 ^ 24
   pub y2 : e .y2 < 2 ^ 24
+
+abbrev pub Drawn : Course → Type 0
+Drawn (Uncut p) = Unit
+Drawn (Between e) = Mapped e

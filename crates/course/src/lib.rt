@@ -2,7 +2,7 @@
 // What the cutting is made of is here; the recursion over the halves adds up shares, and is in the crate reach.
 ghost use mathlib.Core.Path.{_≡_};
 ghost use Prim.Native.Nat.{_^_, _<_, _≤_};
-ghost use Rattle.course.specs.Course.{apart, mean, planBetween, lengthOf, pieceOf, firstHalf, secondHalf, tooLong, Mapped};
+ghost use Rattle.course.specs.Course.{apart, mean, planBetween, lengthOf, onePiece, wholeOf, firstHalf, secondHalf, tooLong, Mapped, Drawn};
 
 // What is no longer is not cut, in cm.
 const CUT_ABOVE: u32 = 250;
@@ -71,11 +71,22 @@ pub fn length(e: Ends) -> u32
 // All of it as one piece, by its length.
 pub fn whole(e: Ends, length: u32) -> Piece
     requires { ⌜ Mapped e × (length ≡ lengthOf e) ⌝ }
-    ensures { λ p. ⌜ p ≡ pieceOf e ⌝ }
+    ensures { λ p. ⌜ p ≡ onePiece e ⌝ }
 {
     let x = mean(e.x1, e.x2);
     let y = mean(e.y1, e.y2);
     Piece { x, y, length }
+}
+
+// All of a road as one piece.
+pub fn whole_of(c: Course) -> Piece
+    requires { ⌜ Drawn c ⌝ }
+    ensures { λ p. ⌜ p ≡ wholeOf c ⌝ }
+{
+    match c {
+        Course::Uncut(p) => p,
+        Course::Between(e) => whole(e, length(e)),
+    }
 }
 
 // The half from the first end to the middle.

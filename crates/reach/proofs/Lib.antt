@@ -1,2 +1,3 @@
--- What the contracts of a pair settle.
+-- How pieces, halves and joined parts go together, and what the contracts of a pair settle.
+pub mod Laws
 pub mod Settled

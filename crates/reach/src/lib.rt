@@ -1,5 +1,8 @@
 // What of a road reaches a point (VBUS sections 3.4, 3.6, 3.7, 3.10): a pair's three shares, or why it is barred.
 // The terms are those of road's specs/Reach.antt; what the road sends out has been worked out before.
+use course::Course;
+use course::Ends;
+use course::Piece;
 use road::Bar;
 use road::Pair;
 use road::Part;
@@ -14,10 +17,14 @@ ghost use Prim.Native.Nat.{_+_, _-_, _*_, _<_, _≤_};
 ghost use Rattle.level.specs.Table.{table};
 ghost use Rattle.road.specs.declared.Verdict.the-variants.{Allowed};
 ghost use Rattle.road.specs.Term.{_⊕_};
-ghost use Rattle.road.specs.Limits.{coordinate};
-ghost use Rattle.road.specs.Reach.{sourceHeight, apart, square, planSquare, distanceTerm, groundTerm, weatherTerm, pairOf, farthest};
+ghost use mathlib.Core.List.{[], _∷_};
+ghost use Rattle.road.specs.declared.Pair.the-variants.{Heard};
+ghost use Rattle.course.specs.Course.{square, lengthOf, onePiece, piecesBetween, Mapped};
+ghost use Rattle.road.specs.Limits.{coordinate, longest};
+ghost use Rattle.road.specs.Reach.{sourceHeight, planSquare, spaceSquare, lengthTerm, distanceTerm, groundTerm, weatherTerm, unlessLoud, pairOver, pairOf, farthest};
+ghost use Rattle.road.specs.Pairs.{Mild};
 ghost use Rattle.road.specs.Judge.{sourceVerdict, receiverVerdict};
-ghost use Rattle.road.specs.Inner.{sentOf, voicedPart, hearOf, Modest, Moderate};
+ghost use Rattle.road.specs.Inner.{sentOf, voicedPart, hearOf, shareBy, addedShares, afterLoud, afterBar, joined, Modest, Moderate};
 
 // How high above the road the source is, in cm.
 const SOURCE_HEIGHT: u16 = 50;
@@ -27,29 +34,17 @@ const NEAREST: u64 = 500 * 500;
 
 const FARTHEST: u64 = 200000 * 200000;
 
-// How loud, in hundredths of a dB.
+// How loud, in hundredths of a dB, and as an energy.
 const LOUDEST: u32 = 9000;
 
-// How far two numbers are apart.
-fn apart(a: u32, b: u32) -> u64
-    ensures { λ r. ⌜ r ≡ apart a b ⌝ }
-{
-    if a < b {
-        return (b - a) as u64;
-    }
-    (a - b) as u64
-}
+const MOST_SHARE: u64 = 1_000_000_000_000_000;
 
-// The squared distance in the plan.
-pub fn plan(s: Source, r: Receiver) -> u64
-    requires { ⌜ (s .x ≤ coordinate) × (s .y ≤ coordinate) × (r .x ≤ coordinate) × (r .y ≤ coordinate) ⌝ }
-    ensures { λ q. ⌜ q ≡ planSquare s r ⌝ }
+// The squared distance in the plan from the middle of a piece.
+pub fn plan(p: Piece, r: Receiver) -> u64
+    requires { ⌜ (p .x ≤ coordinate) × (p .y ≤ coordinate) × (r .x ≤ coordinate) × (r .y ≤ coordinate) ⌝ }
+    ensures { λ q. ⌜ q ≡ planSquare p r ⌝ }
 {
-    let dx = apart(s.x, r.x);
-    let dy = apart(s.y, r.y);
-    let across = dx * dx;
-    let along = dy * dy;
-    across + along
+    course::plan_between(p.x, p.y, r.x, r.y)
 }
 
 // The squared distance in space, by that in the plan and the point's height.
@@ -159,25 +154,136 @@ fn hear(steps: &[u32; 1000], voices: [Voice; 3], length: Term, q0: u64, q: u64, 
     })
 }
 
-// A source and a receiver: the three shares, or the first bar.
-pub fn pair(steps: &[u32; 1000], s: Source, sent: Sent, r: Receiver) -> Pair
-    requires { ⌜ (now steps ≡ table) × (sourceVerdict s ≡ Allowed) × (sent ≡ sentOf s) × (receiverVerdict r ≡ Allowed) ⌝ }
-    ensures { λ p. ⌜ p ≡ pairOf s r ⌝ }
+// A piece that is not cut, by its length's term and the squared distances of a point: the three shares, or the first bar.
+fn alone(
+    steps: &[u32; 1000],
+    voices: [Voice; 3],
+    p: Piece,
+    length: Term,
+    q0: u64,
+    q: u64,
+    r: Receiver,
+) -> Pair
+    requires { ⌜ (now steps ≡ table) × Moderate voices × (1 ≤ p .length) × (p .length ≤ longest) × (receiverVerdict r ≡ Allowed) ⌝ }
+    requires { ⌜ (length ≡ lengthTerm (p .length)) × (q0 ≡ planSquare p r) × (q ≡ spaceSquare p r) ⌝ }
+    ensures { λ a. ⌜ a ≡ pairOver (shareBy voices r) r (p ∷ []) ⌝ }
 {
-    let q0 = plan(s, r);
-    let q = space(q0, r.height);
     if q < NEAREST {
         return Pair::Barred(Bar::Near);
     }
     if FARTHEST < q {
         return Pair::Barred(Bar::Far);
     }
-    let long = s.length as u64;
+    let long = p.length as u64;
     let square = long * long;
     if q < 4 * square {
         return Pair::Barred(Bar::Long);
     }
     let h = (r.height + SOURCE_HEIGHT) as u64;
+    hear(steps, voices, length, q0, q, h)
+}
+
+// The shares of two parts of a road added up, or too loud.
+fn added(x: Shares, y: Shares) -> Pair
+    requires { ⌜ Mild (Heard x) × Mild (Heard y) ⌝ }
+    ensures { λ p. ⌜ p ≡ unlessLoud (addedShares x y) ⌝ }
+{
+    let day = x.day + y.day;
+    let evening = x.evening + y.evening;
+    let night = x.night + y.night;
+    if (MOST_SHARE < day) | (MOST_SHARE < evening) | (MOST_SHARE < night) {
+        return Pair::Barred(Bar::Loud);
+    }
+    Pair::Heard(Shares {
+        day,
+        evening,
+        night,
+    })
+}
+
+// What the second part makes of a road whose first part is too loud.
+fn after_loud(b: Pair) -> Pair
+    ensures { λ p. ⌜ p ≡ afterLoud b ⌝ }
+{
+    match b {
+        Pair::Heard(_) => Pair::Barred(Bar::Loud),
+        Pair::Barred(why) => Pair::Barred(why),
+    }
+}
+
+// And of one whose first part is barred.
+fn after_bar(why: Bar, b: Pair) -> Pair
+    ensures { λ p. ⌜ p ≡ afterBar why b ⌝ }
+{
+    match why {
+        Bar::Near => Pair::Barred(Bar::Near),
+        Bar::Far => Pair::Barred(Bar::Far),
+        Bar::Long => Pair::Barred(Bar::Long),
+        Bar::Loud => after_loud(b),
+    }
+}
+
+// Two parts of a road together.
+fn join(a: Pair, b: Pair) -> Pair
+    requires { ⌜ Mild a × Mild b ⌝ }
+    ensures { λ p. ⌜ p ≡ joined a b ⌝ }
+{
+    match a {
+        Pair::Barred(why) => after_bar(why, b),
+        Pair::Heard(x) => match b {
+            Pair::Barred(why) => Pair::Barred(why),
+            Pair::Heard(y) => added(x, y),
+        },
+    }
+}
+
+// A road between two ends, by its length: as long as it is too long for the point it is halved, and each half is treated the same way.
+fn along(steps: &[u32; 1000], voices: [Voice; 3], e: Ends, length: u32, r: Receiver) -> Pair
+    requires { ⌜ (now steps ≡ table) × Moderate voices × (receiverVerdict r ≡ Allowed) ⌝ }
+    requires { ⌜ Mapped e × (length ≡ lengthOf e) × (1 ≤ length) × (length ≤ longest) ⌝ }
+    ensures { λ a. ⌜ a ≡ pairOver (shareBy voices r) r (piecesBetween (λ p. spaceSquare p r) e) ⌝ }
+{
+    let p = course::whole(e, length);
+    let q0 = plan(p, r);
+    let q = space(q0, r.height);
+    if course::too_long(length, q) {
+        let first = course::first_half(e);
+        let second = course::second_half(e);
+        let a = along(steps, voices, first, course::length(first), r);
+        let b = along(steps, voices, second, course::length(second), r);
+        return join(a, b);
+    }
+    let term = road::emission::length(steps, length);
+    alone(steps, voices, p, term, q0, q, r)
+}
+
+// A road between two ends, which is cut if all of it is too long for the point.
+fn between(steps: &[u32; 1000], sent: Sent, e: Ends, q0: u64, q: u64, r: Receiver) -> Pair
+    requires { ⌜ (now steps ≡ table) × (receiverVerdict r ≡ Allowed) × Moderate (sent .voices) ⌝ }
+    requires { ⌜ Mapped e × (1 ≤ lengthOf e) × (lengthOf e ≤ longest) × (sent .whole ≡ onePiece e) × (sent .length ≡ lengthTerm (lengthOf e)) ⌝ }
+    requires { ⌜ (q0 ≡ planSquare (sent .whole) r) × (q ≡ spaceSquare (sent .whole) r) ⌝ }
+    ensures { λ a. ⌜ a ≡ pairOver (shareBy (sent .voices) r) r (piecesBetween (λ p. spaceSquare p r) e) ⌝ }
+{
     let voices = sent.voices;
-    hear(steps, voices, sent.length, q0, q, h)
+    let whole = sent.whole;
+    if course::too_long(whole.length, q) {
+        return along(steps, voices, e, whole.length, r);
+    }
+    alone(steps, voices, whole, sent.length, q0, q, r)
+}
+
+// A source and a receiver: the three shares, or the first bar.
+pub fn pair(steps: &[u32; 1000], s: Source, sent: Sent, r: Receiver) -> Pair
+    requires { ⌜ (now steps ≡ table) × (sourceVerdict s ≡ Allowed) × (sent ≡ sentOf s) × (receiverVerdict r ≡ Allowed) ⌝ }
+    ensures { λ p. ⌜ p ≡ pairOf s r ⌝ }
+{
+    let voices = sent.voices;
+    let whole = sent.whole;
+    let q0 = plan(whole, r);
+    let q = space(q0, r.height);
+    let course = s.course;
+    match course {
+        Course::Uncut(_) => alone(steps, voices, whole, sent.length, q0, q, r),
+        Course::Between(e) => between(steps, sent, e, q0, q, r),
+    }
 }

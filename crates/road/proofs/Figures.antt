@@ -15,11 +15,11 @@ use Rattle.road.specs.declared.Term.{Term}
 use Rattle.road.specs.declared.Shares.{Shares}
 use Rattle.road.specs.declared.Pair.the-variants.{Heard}
 use Rattle.road.specs.declared.Verdict.the-variants.{Allowed}
-use Rattle.road.specs.Judge.{sourceVerdict, receiverVerdict}
+use Rattle.road.specs.Judge.{restVerdict, sourceVerdict, receiverVerdict}
 use Rattle.root.specs.Root.{rootOf, rooted}
 use Rattle.road.specs.Emission.{trafficTerm, carLevel, truckLevel, speedTerm, surfaceTerm, gradientTerm, reflectionTerm}
 use Rattle.road.specs.Reach.{planSquare, spaceSquare, lengthTerm, distanceTerm, groundTerm, wallsTerm, weatherTerm, shareLevel, energyShare, tooLoud, shareOf, loudIn, sharesOf, pairOf, loudest}
-use Rattle.road.specs.Figures.{road, home, roads, figures}
+use Rattle.road.specs.Figures.{piece, road, home, roads, figures}
 use Rattle.road.proofs.Pairs.{pair-heard}
 
 pub figures-right : T (right figures)
@@ -44,7 +44,7 @@ figure (f ∷ l) i t = go (eqb (f .defined) (f .onPaper)) refl t (figure l) i
     go false e t ih i = absurd t
 
 abbrev level : ℕ → Term
-level period = shareLevel (road 102500) home period
+level period = shareLevel (road 102500) (piece 102500) home period
 
 abbrev above : Term → ℕ
 above t = t .up - t .down
@@ -69,11 +69,11 @@ soft : (t : Term) (n : ℕ) → above t ≡ n → n ≤ loudest → tooLoud t �
 soft t n e h = le-ltb loudest (above t) (omega arith)
 
 pub near-allowed : sourceVerdict (road 102500) ≡ Allowed
-unfolding sourceVerdict carLevel truckLevel levelOf upTo decades table firstQuarter secondQuarter thirdQuarter fourthQuarter
+unfolding sourceVerdict restVerdict carLevel truckLevel levelOf upTo decades table firstQuarter secondQuarter thirdQuarter fourthQuarter
 near-allowed = refl
 
 pub far-allowed : sourceVerdict (road 110000) ≡ Allowed
-unfolding sourceVerdict carLevel truckLevel levelOf upTo decades table firstQuarter secondQuarter thirdQuarter fourthQuarter
+unfolding sourceVerdict restVerdict carLevel truckLevel levelOf upTo decades table firstQuarter secondQuarter thirdQuarter fourthQuarter
 far-allowed = refl
 
 pub home-allowed : receiverVerdict home ≡ Allowed
@@ -85,19 +85,19 @@ home-allowed = refl
 abbrev near-shares : Shares
 near-shares = record { day = energyOf 6028; evening = energyOf 6028; night = energyOf 5028 }
 
-quiet : (loudIn (road 102500) home 0 || loudIn (road 102500) home 1 || loudIn (road 102500) home 2) ≡ false
+quiet : (loudIn (road 102500) (piece 102500) home 0 || loudIn (road 102500) (piece 102500) home 1 || loudIn (road 102500) (piece 102500) home 2) ≡ false
 unfolding loudIn
 quiet = rw (soft (level 0) 6028 day (omega arith), soft (level 1) 6028 evening (omega arith), soft (level 2) 5028 night (omega arith))
 
-shares-are : sharesOf (road 102500) home ≡ near-shares
+shares-are : sharesOf (road 102500) (piece 102500) home ≡ near-shares
 unfolding sharesOf shareOf
 shares-are = λ i. record { day = energy (level 0) 6027 day i; evening = energy (level 1) 6027 evening i; night = energy (level 2) 5027 night i }
 
-apart-is : spaceSquare (road 102500) home ≡ 6372500
+apart-is : spaceSquare (piece 102500) home ≡ 6372500
 unfolding spaceSquare planSquare
 apart-is = refl
 
 pub near-pair : pairOf (road 102500) home ≡ Heard near-shares
 near-pair =
-    pair-heard (road 102500) home (omega (arith, apart-is)) (omega (arith, apart-is)) (omega (arith, apart-is)) quiet
+    pair-heard (road 102500) (piece 102500) home refl (omega (arith, apart-is)) (omega (arith, apart-is)) (omega (arith, apart-is)) quiet
     ∙ (λ i. Heard (shares-are i))

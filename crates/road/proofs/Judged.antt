@@ -13,12 +13,14 @@ use lib.ListN.{length, length-append}
 use Rattle.layout.specs.Bounds.{allowed, onwards}
 use Rattle.answer.specs.declared.Refusal.the-variants.{Damaged, Field, SlowSurface, QuietTruck}
 use Rattle.answer.specs.Table.{numberOf, Between}
+use Rattle.course.specs.declared.Course.{Course}
+use Rattle.course.specs.declared.Course.the-variants as course
 use Rattle.road.specs.declared.Source.{Source}
 use Rattle.road.specs.declared.Receiver.{Receiver}
 use Rattle.road.specs.declared.Verdict.{Verdict}
 use Rattle.road.specs.declared.Verdict.the-variants.{Allowed, Refused}
-use Rattle.road.specs.Fields.{Row, numberAt, roadTable, trafficTable, sourceTable, receiverTable}
-use Rattle.road.specs.Judge.{outsideBy, unlessOutside, slowSurface, quietTruck, sourceVerdict, receiverVerdict, slotVerdict}
+use Rattle.road.specs.Fields.{Row, numberAt, pieceTable, endsTable, lengthTable, roadTable, trafficTable, sourceTable, receiverTable}
+use Rattle.road.specs.Judge.{outsideBy, unlessOutside, slowSurface, quietTruck, courseVerdict, restVerdict, sourceVerdict, receiverVerdict, slotVerdict}
 
 -- ---- the first field outside its limits is refused, and none leaves the rest to be judged
 
@@ -61,8 +63,8 @@ front-first t u a v = go (ltb (outsideBy t a) (length t)) refl
         ∙ outside (t ++ u) a v (outsideBy t a) (sym (front-outside t u a h)) (omega (arith, length-append t u))
     go false e = refl
 
-pub road-first : (s : Source) → unlessOutside roadTable s (sourceVerdict s) ≡ sourceVerdict s
-unfolding sourceVerdict
+pub road-first : (s : Source) → unlessOutside roadTable s (restVerdict s) ≡ restVerdict s
+unfolding restVerdict
 road-first s = front-first roadTable trafficTable s _
 
 pub number-road : (i : ℕ) → i < length roadTable → numberAt sourceTable i ≡ numberAt roadTable i
@@ -90,12 +92,20 @@ either-by false v w m n = n
 pub outside-by : {A : Type 0} (t : List (Row A)) (a : A) (v : Verdict) → ByFields v → ByFields (unlessOutside t a v)
 outside-by t a v n = either-by (ltb (outsideBy t a) (length t)) (Refused (Field (numberAt t (outsideBy t a)))) v (omega arith, omega arith) n
 
-pub source-by : (s : Source) → ByFields (sourceVerdict s)
-unfolding sourceVerdict
-source-by s =
+course-by : (c : Course) (v : Verdict) → ByFields v → ByFields (courseVerdict c v)
+course-by (course.Uncut p) v n = outside-by pieceTable p v n
+course-by (course.Between e) v n = outside-by endsTable e (unlessOutside lengthTable e v) (outside-by lengthTable e v n)
+
+rest-by : (s : Source) → ByFields (restVerdict s)
+unfolding restVerdict
+rest-by s =
     outside-by sourceTable s _
     (either-by (slowSurface s) (Refused SlowSurface) _ (omega arith, omega arith)
     (either-by (quietTruck s) (Refused QuietTruck) Allowed (omega arith, omega arith) tt))
+
+pub source-by : (s : Source) → ByFields (sourceVerdict s)
+unfolding sourceVerdict
+source-by s = course-by (s .course) (restVerdict s) (rest-by s)
 
 pub receiver-by : (r : Receiver) → ByFields (receiverVerdict r)
 unfolding receiverVerdict

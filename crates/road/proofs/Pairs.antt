@@ -1,17 +1,25 @@
--- What callers may use of a pair: when it is barred and when it is heard, and that an accepted share is at most 10^15.
+-- What callers may use of a pair: what one piece and two parts of a road make, and that an accepted share is at most 10^15.
 -- First, that the code's way of adding up gives the definition's. Assumes nothing.
 use mathlib.Core.Path.{_≡_, refl, sym, ap, _∙_, subst}
+use mathlib.Core.Logic.{_≢_}
 use mathlib.Core.Bool.{Bool, true, false, cond, _||_}
-use mathlib.Core.List.{[], _∷_}
+use mathlib.Core.List.{List, [], _∷_, _++_}
+use mathlib.Core.Option.{Option, none, some}
 use Prim.Native.Nat.{ℕ, zero, suc, _+_, _-_, _*_, _/_, _^_, _≤_, _<_}
-use native.Mathlib.Nat.{sub-le, mul-comm, mul-le-mul-left, div-le-of-le-mul}
+use native.Mathlib.Nat.{sub-le, mul-comm, mul-le-mul-left, div-le-of-le-mul, add-assoc, add-zero}
 use native.Mathlib.Decide.{decLe}
 use native.Mathlib.Omega.{arith}
 use lib.ListN.{getD}
 use lib.Dec.{leb, ltb, eqb}
-use borrow.Author.Tests.{lt-ltb, le-ltb, ltb-false}
+use borrow.Author.Tests.{lt-ltb, le-ltb, ltb-true, ltb-false}
 use Rattle.level.specs.Level.{energyOf}
-use Rattle.level.proofs.Laws.{energy-rises, energy-decade}
+use Rattle.level.proofs.Laws.{energy-rises, energy-rising, energy-decade}
+use Rattle.course.specs.declared.Piece.{Piece}
+use Rattle.course.specs.declared.Ends.{Ends}
+use Rattle.course.specs.declared.Course.{Course}
+use Rattle.course.specs.declared.Course.the-variants.{Uncut, Between}
+use Rattle.course.specs.Course.{square, piecesBetween, Fits, Every}
+use Rattle.course.proofs.Rule.{of-courses}
 use Rattle.road.specs.declared.Term.{Term}
 use Rattle.road.specs.declared.Source.{Source}
 use Rattle.road.specs.declared.Receiver.{Receiver}
@@ -24,10 +32,10 @@ use Rattle.road.specs.declared.Pair.the-variants.{Heard, Barred}
 use Rattle.road.specs.declared.Part.{Part}
 use Rattle.road.specs.Term.{_⊕_, period}
 use Rattle.road.specs.Emission.{emissionLevel}
-use Rattle.road.specs.Reach.{square, planSquare, spaceSquare, lengthTerm, distanceTerm, groundTerm, wallsTerm, weatherTerm, rayHeight, shareLevel, energyShare, tooLoud, shareOf, loudIn, sharesOf, pairOf, nearest, farthest, loudest}
+use Rattle.road.specs.Reach.{planSquare, spaceSquare, lengthTerm, distanceTerm, groundTerm, wallsTerm, weatherTerm, rayHeight, shareLevel, energyShare, tooLoud, shareOf, loudIn, sharesOf, sumOf, sharesOver, barOf, firstOr, firstBar, unlessLoud, unlessBarred, pairOver, pairOf, piecesFor, pieceAlone, nearest, farthest, loudest, Promises}
 use Rattle.road.specs.Pairs.{Pairing, mostShare, shareIn, Bounded}
 use Rattle.road.specs.Limits.{longest}
-use Rattle.road.specs.Inner.{silent, voiceOf, voicesOf, voicedPart, wayOf, pairBy, hearOf}
+use Rattle.road.specs.Inner.{silent, voiceOf, voicesOf, voicedPart, wayOf, partIn, pairBy, hearOf, voicedShare, shareBy, addedShares, afterLoud, afterBar, joined}
 use Rattle.road.proofs.Bounds.{times, lv-small}
 use Rattle.road.proofs.Sums.{term-eq, Small}
 
@@ -72,155 +80,374 @@ reached q (suc r) a b e = record { some = omega arith; most = go (decLe (suc r) 
 
 -- ---- the code's sums are the definition's
 
--- what is added on the way from a road to a point
-abbrev between : Source → Receiver → ℕ → Term
-between s r i = wayOf (lengthTerm (s .length)) (planSquare s r) (spaceSquare s r) (rayHeight r) i
-
-level-is : (s : Source) (r : Receiver) (i : ℕ) → emissionLevel s i ⊕ wallsTerm (s .walls) (s .height) (s .spacing) ⊕ between s r i ≡ shareLevel s r i
-unfolding shareLevel
-level-is s r i = same (emissionLevel s i) (lengthTerm (s .length)) _ _ _ _
+-- 13 by a level is 13 by its energy
+pub loud-is : (t : Term) → tooLoud t ≡ ltb mostShare (energyShare t)
+unfolding energyShare
+loud-is t = go (decLe (t .up - t .down) loudest)
   where
-    same : (e l w d g m : Term) → e ⊕ w ⊕ (l ⊕ (d ⊕ g) ⊕ m) ≡ e ⊕ l ⊕ d ⊕ g ⊕ w ⊕ m
-    same e l w d g m = term-eq _ _ (omega arith) (omega arith)
+    top : energyOf loudest ≡ 1000000 * 10 ^ 9
+    top = energy-decade 9
+
+    quiet : (b : Bool) → t .up - t .down ≤ loudest → cond b 0 (energyOf (t .up - t .down)) ≤ mostShare
+    quiet true h = omega arith
+    quiet false h = omega (arith, top, energy-rises (t .up - t .down) loudest h)
+
+    go : Dec (t .up - t .down ≤ loudest) → tooLoud t ≡ ltb mostShare (cond (ltb (t .up) (t .down)) 0 (energyOf (t .up - t .down)))
+    go (yes h) = le-ltb loudest (t .up - t .down) h ∙ sym (le-ltb mostShare _ (quiet (ltb (t .up) (t .down)) h))
+    go (no h) =
+        let l : mostShare < energyOf (t .up - t .down) = omega (arith, top, energy-rising loudest (t .up - t .down) (omega arith)) in
+        lt-ltb loudest (t .up - t .down) (omega arith) ∙ sym (rw (le-ltb (t .up) (t .down) (omega arith)) (lt-ltb mostShare _ l))
 
 -- a part that is too loud has no energy
-partWith : Bool → ℕ → Part
-partWith loud e = record { loud = loud; energy = cond loud 0 e }
+partWith : ℕ → Part
+partWith e = record { loud = ltb mostShare e; energy = cond (ltb mostShare e) 0 e }
 
-part-voiced : (v : Voice) (t : Term) (l : Term) → v .sounds ≡ true → v .level ⊕ t ≡ l → voicedPart v t ≡ partWith (tooLoud l) (energyShare l)
+part-is : (v : Voice) (t : Term) → voicedPart v t ≡ partWith (voicedShare v t)
 unfolding voicedPart partWith
-part-voiced v t l e f = rw (e, voicedPart) (ap (λ (x : Term). chosen (tooLoud x) (energyShare x)) f ∙ go (tooLoud l))
+part-is v t = go (v .sounds)
   where
     chosen : Bool → ℕ → Part
     chosen b n = cond b (record { loud = true; energy = 0 }) (record { loud = false; energy = n })
 
-    go : (b : Bool) → chosen b (energyShare l) ≡ record { loud = b; energy = cond b 0 (energyShare l) }
-    go true = refl
+    split : (b : Bool) (n : ℕ) → chosen b n ≡ record { loud = b; energy = cond b 0 n }
+    split true n = refl
+    split false n = refl
+
+    go : (b : Bool)
+        → cond b (chosen (tooLoud (v .level ⊕ t)) (energyShare (v .level ⊕ t))) (record { loud = false; energy = 0 })
+        ≡ record { loud = ltb mostShare (cond b (energyShare (v .level ⊕ t)) 0); energy = cond (ltb mostShare (cond b (energyShare (v .level ⊕ t)) 0)) 0 (cond b (energyShare (v .level ⊕ t)) 0) }
+    go true = ap (λ (b : Bool). chosen b (energyShare (v .level ⊕ t))) (loud-is (v .level ⊕ t)) ∙ split (ltb mostShare (energyShare (v .level ⊕ t))) (energyShare (v .level ⊕ t))
     go false = refl
 
-part-is : (s : Source) (r : Receiver) (i : ℕ) → voicedPart (voiceOf s i) (between s r i) ≡ partWith (loudIn s r i) (shareOf s r i)
-unfolding voiceOf loudIn shareOf
-part-is s r i = go (eqb (period s i .m) 0)
+pair-by-is : (x y z : ℕ) → pairBy (partWith x) (partWith y) (partWith z) ≡ unlessLoud (record { day = x; evening = y; night = z })
+unfolding partWith
+pair-by-is x y z = go (ltb mostShare x) (ltb mostShare y) (ltb mostShare z)
   where
+    go : (a b d : Bool)
+        → cond (a || b || d) (Barred Loud) (Heard (record { day = cond a 0 x; evening = cond b 0 y; night = cond d 0 z }))
+        ≡ cond (a || b || d) (Barred Loud) (Heard (record { day = x; evening = y; night = z }))
+    go true b d = refl
+    go false true d = refl
+    go false false true = refl
+    go false false false = refl
+
+-- what is heard of the piece p by the voices
+pub hear-is : (vs : List Voice) (p : Piece) (r : Receiver)
+    → hearOf vs (lengthTerm (p .length)) (planSquare p r) (spaceSquare p r) (rayHeight r) ≡ unlessLoud (sharesOver (shareBy vs r) (p ∷ []))
+unfolding hearOf shareBy
+hear-is vs p r =
+    (λ j. pairBy (part-is (getD vs 0 silent) (way 0) j) (part-is (getD vs 1 silent) (way 1) j) (part-is (getD vs 2 silent) (way 2) j))
+    ∙ pair-by-is (share 0) (share 1) (share 2)
+    ∙ (λ j. unlessLoud (record { day = sym (add-zero (share 0)) j; evening = sym (add-zero (share 1)) j; night = sym (add-zero (share 2)) j }))
+  where
+    way : ℕ → Term
+    way i = wayOf (lengthTerm (p .length)) (planSquare p r) (spaceSquare p r) (rayHeight r) i
+
+    share : ℕ → ℕ
+    share i = voicedShare (getD vs i silent) (way i)
+
+level-is : (s : Source) (p : Piece) (r : Receiver) (i : ℕ)
+    → emissionLevel s i ⊕ wallsTerm (s .walls) (s .height) (s .spacing) ⊕ wayOf (lengthTerm (p .length)) (planSquare p r) (spaceSquare p r) (rayHeight r) i
+    ≡ shareLevel s p r i
+unfolding shareLevel
+level-is s p r i = same (emissionLevel s i) (lengthTerm (p .length)) _ _ _ _
+  where
+    same : (e l w d g m : Term) → e ⊕ w ⊕ (l ⊕ (d ⊕ g) ⊕ m) ≡ e ⊕ l ⊕ d ⊕ g ⊕ w ⊕ m
+    same e l w d g m = term-eq _ _ (omega arith) (omega arith)
+
+-- the share by a voice is that of the source
+voiced-is : (s : Source) (p : Piece) (r : Receiver) (i : ℕ)
+    → voicedShare (voiceOf s i) (wayOf (lengthTerm (p .length)) (planSquare p r) (spaceSquare p r) (rayHeight r) i) ≡ shareOf s p r i
+unfolding voiceOf shareOf
+voiced-is s p r i = go (eqb (period s i .m) 0)
+  where
+    t : Term
+    t = wayOf (lengthTerm (p .length)) (planSquare p r) (spaceSquare p r) (rayHeight r) i
+
     sent : Voice
     sent = record { sounds = true; level = emissionLevel s i ⊕ wallsTerm (s .walls) (s .height) (s .spacing) }
 
-    go : (b : Bool)
-        → voicedPart (cond b silent sent) (between s r i)
-        ≡ partWith (cond b false (tooLoud (shareLevel s r i))) (cond b 0 (energyShare (shareLevel s r i)))
-    go true = nothing (between s r i)
-      where
-        nothing : (t : Term) → voicedPart silent t ≡ partWith false 0
-        nothing t = unfold voicedPart partWith in refl
-    go false = part-voiced sent (between s r i) (shareLevel s r i) refl (level-is s r i)
+    go : (b : Bool) → voicedShare (cond b silent sent) t ≡ cond b 0 (energyShare (shareLevel s p r i))
+    go true = refl
+    go false = ap energyShare (level-is s p r i)
 
-pair-by-is : (a b d : Bool) (x y z : ℕ)
-    → pairBy (partWith a x) (partWith b y) (partWith d z) ≡ cond (a || b || d) (Barred Loud) (Heard (record { day = x; evening = y; night = z }))
-unfolding partWith
-pair-by-is true b d x y z = refl
-pair-by-is false true d x y z = refl
-pair-by-is false false true x y z = refl
-pair-by-is false false false x y z = refl
+-- so are all of them, of any pieces
+pub shares-by : (s : Source) (r : Receiver) (ps : List Piece) → sharesOver (shareBy (voicesOf s) r) ps ≡ sharesOver (λ p i. shareOf s p r i) ps
+unfolding shareBy voicesOf
+shares-by s r ps = λ j.
+    record {
+      day = sumOf (λ p. voiced-is s p r 0 j) ps;
+      evening = sumOf (λ p. voiced-is s p r 1 j) ps;
+      night = sumOf (λ p. voiced-is s p r 2 j) ps;
+    }
 
-pub hear-is : (s : Source) (r : Receiver)
-    → hearOf (voicesOf s) (lengthTerm (s .length)) (planSquare s r) (spaceSquare s r) (rayHeight r)
-    ≡ cond (loudIn s r 0 || loudIn s r 1 || loudIn s r 2) (Barred Loud) (Heard (sharesOf s r))
-unfolding hearOf voicesOf sharesOf
-hear-is s r =
-    (λ i. pairBy (part-is s r 0 i) (part-is s r 1 i) (part-is s r 2 i))
-    ∙ pair-by-is (loudIn s r 0) (loudIn s r 1) (loudIn s r 2) (shareOf s r 0) (shareOf s r 1) (shareOf s r 2)
+-- ---- what bars a piece, case by case
 
--- ---- the pair's answer, case by case
+module _ (p : Piece) (r : Receiver) where
+  pub bar-near : spaceSquare p r < nearest → barOf p r ≡ some Near
+  unfolding barOf
+  bar-near h = rw (lt-ltb (spaceSquare p r) nearest h, barOf)
 
-module _ (s : Source) (r : Receiver) where
-  pub pair-near : spaceSquare s r < nearest → pairOf s r ≡ Barred Near
-  unfolding pairOf
-  pair-near h = rw (lt-ltb (spaceSquare s r) nearest h, pairOf)
+  pub bar-far : farthest < spaceSquare p r → barOf p r ≡ some Far
+  unfolding barOf
+  bar-far h = rw (le-ltb (spaceSquare p r) nearest (omega arith), lt-ltb farthest (spaceSquare p r) h, barOf)
 
-  pub pair-far : farthest < spaceSquare s r → pairOf s r ≡ Barred Far
-  unfolding pairOf
-  pair-far h = rw (le-ltb (spaceSquare s r) nearest (omega arith), lt-ltb farthest (spaceSquare s r) h, pairOf)
+  -- a piece that is too far is neither too near nor, with a length that is allowed, too long: between these rows no order shows
+  pub far-alone : p .length ≤ longest → farthest < spaceSquare p r → (nearest ≤ spaceSquare p r) × (4 * square (p .length) ≤ spaceSquare p r)
+  far-alone l h = (omega arith, omega (arith, times (p .length) (p .length) longest longest l l))
 
-  -- a pair that is too far is neither too near nor, with a length that is allowed, too long: between these rows no order shows
-  pub far-alone : s .length ≤ longest → farthest < spaceSquare s r → (nearest ≤ spaceSquare s r) × (4 * square (s .length) ≤ spaceSquare s r)
-  far-alone l h = (omega arith, omega (arith, times (s .length) (s .length) longest longest l l))
+  pub bar-long : nearest ≤ spaceSquare p r → spaceSquare p r ≤ farthest → spaceSquare p r < 4 * square (p .length) → barOf p r ≡ some Long
+  unfolding barOf
+  bar-long a b h =
+      rw (le-ltb (spaceSquare p r) nearest a, le-ltb farthest (spaceSquare p r) b, lt-ltb (spaceSquare p r) (4 * square (p .length)) h, barOf)
 
-  pub pair-long : nearest ≤ spaceSquare s r → spaceSquare s r ≤ farthest → spaceSquare s r < 4 * square (s .length) → pairOf s r ≡ Barred Long
-  unfolding pairOf
-  pair-long a b h =
-      rw (le-ltb (spaceSquare s r) nearest a, le-ltb farthest (spaceSquare s r) b, lt-ltb (spaceSquare s r) (4 * square (s .length)) h, pairOf)
+  pub bar-none : nearest ≤ spaceSquare p r → spaceSquare p r ≤ farthest → 4 * square (p .length) ≤ spaceSquare p r → barOf p r ≡ none
+  unfolding barOf
+  bar-none a b h =
+      rw (le-ltb (spaceSquare p r) nearest a, le-ltb farthest (spaceSquare p r) b, le-ltb (spaceSquare p r) (4 * square (p .length)) h, barOf)
 
-  pub pair-within : nearest ≤ spaceSquare s r → spaceSquare s r ≤ farthest → 4 * square (s .length) ≤ spaceSquare s r
-      → pairOf s r ≡ hearOf (voicesOf s) (lengthTerm (s .length)) (planSquare s r) (spaceSquare s r) (rayHeight r)
-  unfolding pairOf
-  pair-within a b h =
-      rw (le-ltb (spaceSquare s r) nearest a, le-ltb farthest (spaceSquare s r) b, le-ltb (spaceSquare s r) (4 * square (s .length)) h, pairOf)
-      (sym (hear-is s r))
+  -- and so of that piece by itself
+  pub one-barred : (f : Piece → ℕ → ℕ) (b : Bar) → barOf p r ≡ some b → pairOver f r (p ∷ []) ≡ Barred b
+  one-barred f b e = ap (λ (o : Option Bar). unlessBarred (firstOr o none) (unlessLoud (sharesOver f (p ∷ [])))) e
 
--- ---- an accepted share
+  pub one-heard : (vs : List Voice) → barOf p r ≡ none
+      → pairOver (shareBy vs r) r (p ∷ []) ≡ hearOf vs (lengthTerm (p .length)) (planSquare p r) (spaceSquare p r) (rayHeight r)
+  one-heard vs e = ap (λ (o : Option Bar). unlessBarred (firstOr o none) (unlessLoud (sharesOver (shareBy vs r) (p ∷ [])))) e ∙ sym (hear-is vs p r)
 
-pub share-most : (s : Source) (r : Receiver) (i : ℕ) → loudIn s r i ≡ false → shareOf s r i ≤ mostShare
-unfolding shareOf loudIn energyShare
-share-most s r i = go (eqb (period s i .m) 0)
+-- ---- two parts of a road
+
+sum-append : (f : Piece → ℕ) (ps qs : List Piece) → sumOf f (ps ++ qs) ≡ sumOf f ps + sumOf f qs
+sum-append f [] qs = omega arith
+sum-append f (p ∷ ps) qs = ap (λ (n : ℕ). f p + n) (sum-append f ps qs) ∙ sym (add-assoc (f p) (sumOf f ps) (sumOf f qs))
+
+shares-append : (f : Piece → ℕ → ℕ) (ps qs : List Piece) → sharesOver f (ps ++ qs) ≡ addedShares (sharesOver f ps) (sharesOver f qs)
+shares-append f ps qs = λ j.
+    record {
+      day = sum-append (λ p. f p 0) ps qs j;
+      evening = sum-append (λ p. f p 1) ps qs j;
+      night = sum-append (λ p. f p 2) ps qs j;
+    }
+
+first-append : (r : Receiver) (ps qs : List Piece) → firstBar r (ps ++ qs) ≡ firstOr (firstBar r ps) (firstBar r qs)
+first-append r [] qs = refl
+first-append r (p ∷ ps) qs = ap (firstOr (barOf p r)) (first-append r ps qs) ∙ sym (nested (barOf p r))
   where
-    t : Term
-    t = shareLevel s r i
+    nested : (o : Option Bar) → firstOr (firstOr o (firstBar r ps)) (firstBar r qs) ≡ firstOr o (firstOr (firstBar r ps) (firstBar r qs))
+    nested (some b) = refl
+    nested none = refl
 
-    top : energyOf loudest ≡ 1000000 * 10 ^ 9
-    top = energy-decade 9
+-- no place is loud
+abbrev Placed : Option Bar → Type 0
+Placed none = Unit
+Placed (some Near) = Unit
+Placed (some Far) = Unit
+Placed (some Long) = Unit
+Placed (some Loud) = ⊥
 
-    heard : t .up - t .down ≤ loudest → (b : Bool) → cond b 0 (energyOf (t .up - t .down)) ≤ 1000000000000000
-    heard h true = omega arith
-    heard h false = omega (arith, top, energy-rises (t .up - t .down) loudest h)
+bar-placed : (p : Piece) (r : Receiver) → Placed (barOf p r)
+unfolding barOf
+bar-placed p r = go (ltb (spaceSquare p r) nearest) (ltb farthest (spaceSquare p r)) (ltb (spaceSquare p r) (4 * square (p .length)))
+  where
+    go : (a b d : Bool) → Placed (cond a (some Near) (cond b (some Far) (cond d (some Long) none)))
+    go true b d = tt
+    go false true d = tt
+    go false false true = tt
+    go false false false = tt
 
-    go : (b : Bool) → cond b false (tooLoud t) ≡ false → cond b 0 (cond (ltb (t .up) (t .down)) 0 (energyOf (t .up - t .down))) ≤ 1000000000000000
-    go true e = omega arith
-    go false e = heard (ltb-false loudest (t .up - t .down) e) (ltb (t .up) (t .down))
+first-placed : (r : Receiver) (ps : List Piece) → Placed (firstBar r ps)
+first-placed r [] = tt
+first-placed r (p ∷ ps) = go (barOf p r) (bar-placed p r) (first-placed r ps)
+  where
+    go : (o : Option Bar) → Placed o → Placed (firstBar r ps) → Placed (firstOr o (firstBar r ps))
+    go (some b) h l = h
+    go none h l = l
+
+-- ---- what two parts make
+
+abbrev isLoud : Shares → Bool
+isLoud h = ltb mostShare (h .day) || ltb mostShare (h .evening) || ltb mostShare (h .night)
+
+any-more : (a b d a' b' d' : Bool) → (a ≡ true → a' ≡ true) → (b ≡ true → b' ≡ true) → (d ≡ true → d' ≡ true)
+    → (a || b || d) ≡ true → (a' || b' || d') ≡ true
+any-more true b d a' b' d' f g h e = rw (f refl) refl
+any-more false true d a' b' d' f g h e = rw (g refl) (second a')
+  where
+    second : (t : Bool) → (t || true || d') ≡ true
+    second true = refl
+    second false = refl
+any-more false false true a' b' d' f g h e = rw (h refl) (third a' b')
+  where
+    third : (t u : Bool) → (t || u || true) ≡ true
+    third true u = refl
+    third false true = refl
+    third false false = refl
+any-more false false false a' b' d' f g h e = absurd (let z : _≡_ {A = ℕ} 0 1 = cc in omega arith)
+
+above-left : (a b : ℕ) → ltb mostShare a ≡ true → ltb mostShare (a + b) ≡ true
+above-left a b e = lt-ltb mostShare (a + b) (omega (arith, ltb-true mostShare a e))
+
+above-right : (a b : ℕ) → ltb mostShare b ≡ true → ltb mostShare (a + b) ≡ true
+above-right a b e = lt-ltb mostShare (a + b) (omega (arith, ltb-true mostShare b e))
+
+loud-left : (x y : Shares) → isLoud x ≡ true → isLoud (addedShares x y) ≡ true
+loud-left x y = any-more _ _ _ _ _ _ (above-left (x .day) (y .day)) (above-left (x .evening) (y .evening)) (above-left (x .night) (y .night))
+
+loud-right : (x y : Shares) → isLoud y ≡ true → isLoud (addedShares x y) ≡ true
+loud-right x y = any-more _ _ _ _ _ _ (above-right (x .day) (y .day)) (above-right (x .evening) (y .evening)) (above-right (x .night) (y .night))
+
+settled-join : (a b : Option Bar) → Placed a → (x y : Shares)
+    → unlessBarred (firstOr a b) (unlessLoud (addedShares x y)) ≡ joined (unlessBarred a (unlessLoud x)) (unlessBarred b (unlessLoud y))
+unfolding joined
+settled-join (some Near) b h x y = refl
+settled-join (some Far) b h x y = refl
+settled-join (some Long) b h x y = refl
+settled-join (some Loud) b h x y = absurd h
+settled-join none (some b) h x y = go (isLoud x)
+  where
+    go : (t : Bool) → Barred b ≡ joined (cond t (Barred Loud) (Heard x)) (Barred b)
+    go true = refl
+    go false = refl
+settled-join none none h x y = go (isLoud x) refl (isLoud y) refl
+  where
+    go : (t : Bool) → isLoud x ≡ t → (u : Bool) → isLoud y ≡ u
+        → unlessLoud (addedShares x y) ≡ joined (cond t (Barred Loud) (Heard x)) (cond u (Barred Loud) (Heard y))
+    go true e true f = ap (λ (w : Bool). cond w (Barred Loud) (Heard (addedShares x y))) (loud-left x y e)
+    go true e false f = ap (λ (w : Bool). cond w (Barred Loud) (Heard (addedShares x y))) (loud-left x y e)
+    go false e true f = ap (λ (w : Bool). cond w (Barred Loud) (Heard (addedShares x y))) (loud-right x y f)
+    go false e false f = refl
+
+pub join-is : (f : Piece → ℕ → ℕ) (r : Receiver) (ps qs : List Piece) → pairOver f r (ps ++ qs) ≡ joined (pairOver f r ps) (pairOver f r qs)
+join-is f r ps qs =
+    (λ j. unlessBarred (first-append r ps qs j) (unlessLoud (shares-append f ps qs j)))
+    ∙ settled-join (firstBar r ps) (firstBar r qs) (first-placed r ps) (sharesOver f ps) (sharesOver f qs)
+
+-- ---- what a ledger and a book know of a pair: no share is above 10^15
 
 or-false : (a b : Bool) → (a || b) ≡ false → (a ≡ false) × (b ≡ false)
 or-false true b e = absurd (let z : _≡_ {A = ℕ} 0 1 = cc in omega arith)
 or-false false b e = (refl, e)
 
--- ---- what a ledger and a book know of a pair
+nothing-brought : (b : Bar) (i : ℕ) → shareIn (Barred b) i ≤ mostShare
+nothing-brought b zero = omega arith
+nothing-brought b (suc zero) = omega arith
+nothing-brought b (suc (suc zero)) = omega arith
+nothing-brought b (suc (suc (suc i))) = omega arith
 
-module _ (s : Source) (r : Receiver) where
-  no-loud : (loudIn s r 0 || loudIn s r 1 || loudIn s r 2) ≡ false → (i : ℕ) → shareIn (Heard (sharesOf s r)) i ≤ mostShare
-  unfolding sharesOf
-  no-loud e i =
-      let a = or-false (loudIn s r 0 || loudIn s r 1) (loudIn s r 2) e in
-      let b = or-false (loudIn s r 0) (loudIn s r 1) (a .0) in
-      three i (share-most s r 0 (b .0)) (share-most s r 1 (b .1)) (share-most s r 2 (a .1))
-    where
-      three : (i : ℕ) → shareOf s r 0 ≤ mostShare → shareOf s r 1 ≤ mostShare → shareOf s r 2 ≤ mostShare
-          → getD (shareOf s r 0 ∷ shareOf s r 1 ∷ shareOf s r 2 ∷ []) i 0 ≤ mostShare
-      three zero x y z = x
-      three (suc zero) x y z = y
-      three (suc (suc zero)) x y z = z
-      three (suc (suc (suc i))) x y z = omega arith
+unless-loud-bounded : (h : Shares) (i : ℕ) → shareIn (unlessLoud h) i ≤ mostShare
+unless-loud-bounded h i = go (isLoud h) refl
+  where
+    three : (i : ℕ) → h .day ≤ mostShare → h .evening ≤ mostShare → h .night ≤ mostShare
+        → getD (h .day ∷ h .evening ∷ h .night ∷ []) i 0 ≤ mostShare
+    three zero x y z = x
+    three (suc zero) x y z = y
+    three (suc (suc zero)) x y z = z
+    three (suc (suc (suc i))) x y z = omega arith
 
-  nothing-brought : (b : Bar) (i : ℕ) → shareIn (Barred b) i ≤ mostShare
-  nothing-brought b zero = omega arith
-  nothing-brought b (suc zero) = omega arith
-  nothing-brought b (suc (suc zero)) = omega arith
-  nothing-brought b (suc (suc (suc i))) = omega arith
+    go : (t : Bool) → isLoud h ≡ t → shareIn (cond t (Barred Loud) (Heard h)) i ≤ mostShare
+    go true e = nothing-brought Loud i
+    go false e =
+        let a = or-false (ltb mostShare (h .day) || ltb mostShare (h .evening)) (ltb mostShare (h .night)) e in
+        let b = or-false (ltb mostShare (h .day)) (ltb mostShare (h .evening)) (a .0) in
+        three i (ltb-false _ _ (b .0)) (ltb-false _ _ (b .1)) (ltb-false _ _ (a .1))
 
-unless-barred : (t : Bool) (b : Bar) (p : Pair) (i : ℕ) → shareIn (Barred b) i ≤ mostShare → (t ≡ false → shareIn p i ≤ mostShare) → shareIn (cond t (Barred b) p) i ≤ mostShare
-unless-barred true b p i n f = n
-unless-barred false b p i n f = f refl
+pub over-bounded : (f : Piece → ℕ → ℕ) (r : Receiver) (ps : List Piece) (i : ℕ) → shareIn (pairOver f r ps) i ≤ mostShare
+over-bounded f r ps i = go (firstBar r ps)
+  where
+    go : (o : Option Bar) → shareIn (unlessBarred o (unlessLoud (sharesOver f ps))) i ≤ mostShare
+    go (some b) = nothing-brought b i
+    go none = unless-loud-bounded (sharesOver f ps) i
 
 pub pair-bounded : Bounded pairOf
 unfolding pairOf
-pair-bounded s r i =
-    unless-barred (ltb (spaceSquare s r) nearest) Near _ i (nothing-brought s r Near i) λ near.
-    unless-barred (ltb farthest (spaceSquare s r)) Far _ i (nothing-brought s r Far i) λ far.
-    unless-barred (ltb (spaceSquare s r) (4 * square (s .length))) Long _ i (nothing-brought s r Long i) λ long.
-    unless-barred (loudIn s r 0 || loudIn s r 1 || loudIn s r 2) Loud _ i (nothing-brought s r Loud i) λ quiet.
-    no-loud s r quiet i
+pair-bounded s r i = over-bounded (λ p j. shareOf s p r j) r (piecesFor r (s .course)) i
 
 pub heard-most : (pair : Pairing) → Bounded pair → (s : Source) (r : Receiver) (h : Shares) → pair s r ≡ Heard h → (i : ℕ) → shareIn (Heard h) i ≤ mostShare
 heard-most pair bounded s r h e i = subst (λ (p : Pair). shareIn p i ≤ mostShare) e (bounded s r i)
 
--- the case of a pair that is in reach and nowhere loud
-pub pair-heard : (s : Source) (r : Receiver) → nearest ≤ spaceSquare s r → spaceSquare s r ≤ farthest → 4 * square (s .length) ≤ spaceSquare s r
-    → (loudIn s r 0 || loudIn s r 1 || loudIn s r 2) ≡ false → pairOf s r ≡ Heard (sharesOf s r)
-pair-heard s r a b h e = pair-within s r a b h ∙ hear-is s r ∙ ap (λ (t : Bool). cond t (Barred Loud) (Heard (sharesOf s r))) e
+-- ---- the promises of the two courses
+
+loud-in : (s : Source) (p : Piece) (r : Receiver) (i : ℕ) → loudIn s p r i ≡ ltb mostShare (shareOf s p r i)
+unfolding loudIn shareOf
+loud-in s p r i = go (eqb (period s i .m) 0)
+  where
+    go : (b : Bool) → cond b false (tooLoud (shareLevel s p r i)) ≡ ltb mostShare (cond b 0 (energyShare (shareLevel s p r i)))
+    go true = refl
+    go false = loud-is (shareLevel s p r i)
+
+alone : (s : Source) (p : Piece) (r : Receiver)
+    → unlessLoud (sharesOver (λ q i. shareOf s q r i) (p ∷ [])) ≡ cond (loudIn s p r 0 || loudIn s p r 1 || loudIn s p r 2) (Barred Loud) (Heard (sharesOf s p r))
+unfolding sharesOf
+alone s p r =
+    (λ j. unlessLoud (record { day = add-zero (shareOf s p r 0) j; evening = add-zero (shareOf s p r 1) j; night = add-zero (shareOf s p r 2) j }))
+    ∙ sym (λ j. cond (loud-in s p r 0 j || loud-in s p r 1 j || loud-in s p r 2 j) (Barred Loud)
+    (Heard (record { day = shareOf s p r 0; evening = shareOf s p r 1; night = shareOf s p r 2 })))
+
+uncut : (s : Source) (r : Receiver) (p : Piece) → s .course ≡ Uncut p → pairOf s r ≡ pieceAlone s p r
+unfolding pairOf barOf
+uncut s r p e =
+    ap (λ (c : Course). pairOver (λ q i. shareOf s q r i) r (piecesFor r c)) e
+    ∙ go (ltb (spaceSquare p r) nearest) (ltb farthest (spaceSquare p r)) (ltb (spaceSquare p r) (4 * square (p .length)))
+  where
+    go : (a b d : Bool)
+        → unlessBarred (firstOr (cond a (some Near) (cond b (some Far) (cond d (some Long) none))) none) (unlessLoud (sharesOver (λ q i. shareOf s q r i) (p ∷ [])))
+        ≡ cond a (Barred Near) (cond b (Barred Far) (cond d (Barred Long) (cond (loudIn s p r 0 || loudIn s p r 1 || loudIn s p r 2) (Barred Loud) (Heard (sharesOf s p r)))))
+    go true b d = refl
+    go false true d = refl
+    go false false true = refl
+    go false false false = alone s p r
+
+-- a bar that is not for the length
+abbrev Short : Option Bar → Type 0
+Short none = Unit
+Short (some Near) = Unit
+Short (some Far) = Unit
+Short (some Long) = ⊥
+Short (some Loud) = Unit
+
+bar-short : (p : Piece) (r : Receiver) → (nearest ≤ spaceSquare p r → Fits (spaceSquare p r) p) → Short (barOf p r)
+bar-short p r f = go (decLe nearest (spaceSquare p r)) (decLe (spaceSquare p r) farthest)
+  where
+    go : Dec (nearest ≤ spaceSquare p r) → Dec (spaceSquare p r ≤ farthest) → Short (barOf p r)
+    go (no a) b = rw (bar-near p r (omega arith)) tt
+    go (yes a) (no b) = rw (bar-far p r (omega arith)) tt
+    go (yes a) (yes b) = rw (bar-none p r a b (f a)) tt
+
+first-short : (r : Receiver) (ps : List Piece) → Every (λ p. nearest ≤ spaceSquare p r → Fits (spaceSquare p r) p) ps → Short (firstBar r ps)
+first-short r [] h = tt
+first-short r (p ∷ ps) h = go (barOf p r) (bar-short p r (h .0)) (first-short r ps (h .1))
+  where
+    go : (o : Option Bar) → Short o → Short (firstBar r ps) → Short (firstOr o (firstBar r ps))
+    go (some b) k l = k
+    go none k l = l
+
+abbrev NotLong : Pair → Type 0
+NotLong (Heard h) = Unit
+NotLong (Barred b) = Short (some b)
+
+never-long : (s : Source) (r : Receiver) (e : Ends) → s .course ≡ Between e → pairOf s r ≢ Barred Long
+unfolding pairOf
+never-long s r e c h = subst NotLong h (subst (λ (k : Course). NotLong (pairOver (λ p i. shareOf s p r i) r (piecesFor r k))) (sym c) (go (firstBar r ps) (first-short r ps (of-courses .fit (λ p. spaceSquare p r) e))))
+  where
+    ps : List Piece
+    ps = piecesBetween (λ p. spaceSquare p r) e
+
+    x : Shares
+    x = sharesOver (λ p i. shareOf s p r i) ps
+
+    quiet : (t : Bool) → NotLong (cond t (Barred Loud) (Heard x))
+    quiet true = tt
+    quiet false = tt
+
+    go : (o : Option Bar) → Short o → NotLong (unlessBarred o (unlessLoud x))
+    go (some b) k = k
+    go none k = quiet (isLoud x)
+
+pub of-pairs : Promises
+of-pairs = record { uncut = uncut; never-long = never-long }
+
+-- the case of an uncut piece that is in reach and nowhere loud
+pub pair-heard : (s : Source) (p : Piece) (r : Receiver) → s .course ≡ Uncut p
+    → nearest ≤ spaceSquare p r → spaceSquare p r ≤ farthest → 4 * square (p .length) ≤ spaceSquare p r
+    → (loudIn s p r 0 || loudIn s p r 1 || loudIn s p r 2) ≡ false → pairOf s r ≡ Heard (sharesOf s p r)
+pair-heard s p r c a b h e =
+    uncut s r p c ∙ rw (le-ltb (spaceSquare p r) nearest a, le-ltb farthest (spaceSquare p r) b, le-ltb (spaceSquare p r) (4 * square (p .length)) h, e) refl

@@ -24,9 +24,7 @@ three (a ∷ b ∷ d ∷ e ∷ l) h = absurd (omega arith)
 abbrev pub with : Source → List Traffic → Source
 with s t =
     record {
-      x = s .x;
-      y = s .y;
-      length = s .length;
+      course = s .course;
       lanes = s .lanes;
       car = s .car;
       truck = s .truck;
@@ -44,4 +42,4 @@ periods-again s h = ap (with s) (three (s .traffic) h)
 
 -- what owning a source tells of it
 pub owned-periods : (s : Source) (vs : List Val) → Is (row the-type) s vs → length (s .traffic) ≡ 3
-owned-periods s vs p = sym (length-map (s .traffic) _) ∙ p .1 .1 .1 .1 .1 .1 .1 .1 .1 .1 .1 .1 .1 .1 .0 .1 .0 .1
+owned-periods s vs p = sym (length-map (s .traffic) _) ∙ p .1 .1 .1 .1 .1 .1 .1 .1 .1 .1 .1 .1 .0 .1 .0 .1

@@ -13,6 +13,7 @@ use lib.Seq.{drop-nil, take-all}
 use borrow.Author.Tests.{leb-true, ltb-true}
 use Rattle.layout.specs.Layout.{Within}
 use Rattle.layout.proofs.Bounds.{both}
+use Rattle.course.specs.declared.Course.{Course}
 use Rattle.road.specs.declared.Source.{Source}
 use Rattle.road.specs.declared.Receiver.{Receiver}
 use Rattle.road.specs.Fields.{Row, sourceTable, receiverTable, sourceOf, receiverOf, valuesBy, bitsBy, slotBitsBy, numberAt, rowsBy, Fit}
@@ -20,7 +21,7 @@ use Rattle.road.proofs.Periods.{periods-again}
 
 -- ---- values and what has them
 
-pub source-again : (s : Source) → length (s .traffic) ≡ 3 → sourceOf (valuesBy sourceTable s) ≡ s
+pub source-again : (s : Source) → length (s .traffic) ≡ 3 → sourceOf (s .course) (valuesBy sourceTable s) ≡ s
 source-again s h = periods-again s h
 
 pub receiver-again : (r : Receiver) → receiverOf (valuesBy receiverTable r) ≡ r
@@ -44,8 +45,8 @@ upto-take zero v = refl
 upto-take (suc n) [] = refl
 upto-take (suc n) (x ∷ v) = ap (λ (l : List ℕ). x ∷ l) (upto-take n v)
 
-pub source-values-again : (v : List ℕ) → length v ≡ length sourceTable → valuesBy sourceTable (sourceOf v) ≡ v
-source-values-again v h = all-of (length sourceTable) v h
+pub source-values-again : (c : Course) (v : List ℕ) → length v ≡ length sourceTable → valuesBy sourceTable (sourceOf c v) ≡ v
+source-values-again c v h = all-of (length sourceTable) v h
 
 pub receiver-values-again : (v : List ℕ) → length v ≡ length receiverTable → valuesBy receiverTable (receiverOf v) ≡ v
 receiver-values-again v h = all-of (length receiverTable) v h

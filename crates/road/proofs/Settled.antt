@@ -6,6 +6,7 @@ use Rattle.answer.proofs.Settled.{settled}
 use Rattle.root.proofs.Laws.{root-one}
 use Rattle.level.proofs as level
 use Rattle.layout.proofs as layout
+use Rattle.course.proofs as course
 use Rattle.root.proofs as root
 use Rattle.road.proofs
 
@@ -36,11 +37,26 @@ walls-settled l a = settled _ _
 send-settled : SettlesResult proofs.emission.send.Reads.Post
 send-settled l a = settled _ _
 
+length-settled : SettlesResult proofs.emission.length.Reads.Post
+length-settled l a = settled _ _
+
+piece-values-settled : SettlesResult proofs.fields.piece_values.Reads.Post
+piece-values-settled l a = settled _ _
+
+ends-values-settled : SettlesResult proofs.fields.ends_values.Reads.Post
+ends-values-settled l a = settled _ _
+
 source-values-settled : SettlesResult proofs.fields.source_values.Reads.Post
 source-values-settled l a = settled _ _
 
 receiver-values-settled : SettlesResult proofs.fields.receiver_values.Reads.Post
 receiver-values-settled l a = settled _ _
+
+piece-of-settled : SettlesResult proofs.fields.piece_of.Reads.Post
+piece-of-settled l a = settled _ _
+
+ends-of-settled : SettlesResult proofs.fields.ends_of.Reads.Post
+ends-of-settled l a = settled _ _
 
 road-of-settled : SettlesResult proofs.fields.road_of.Reads.Post
 road-of-settled l a = settled _ _
@@ -53,6 +69,9 @@ receiver-of-settled l a = settled _ _
 
 judge-source-settled : SettlesResult proofs.judge.judge_source.Reads.Post
 judge-source-settled l a = settled _ _
+
+judge-piece-settled : SettlesResult proofs.judge.judge_piece.Reads.Post
+judge-piece-settled l a = settled _ _
 
 judge-road-settled : SettlesResult proofs.judge.judge_road.Reads.Post
 judge-road-settled l a = settled _ _
@@ -102,6 +121,29 @@ put-fields-settled l a = settled _ _
 
 first-outside-settled : SettlesResult layout.first_outside.Reads.Post
 first-outside-settled l a = settled _ _
+
+-- ---- courses
+
+plan-between-settled : SettlesResult course.plan_between.Reads.Post
+plan-between-settled l a = settled _ _
+
+course-length-settled : SettlesResult course.length.Reads.Post
+course-length-settled l a = settled _ _
+
+whole-settled : SettlesResult course.whole.Reads.Post
+whole-settled l a = settled _ _
+
+whole-of-settled : SettlesResult course.whole_of.Reads.Post
+whole-of-settled l a = settled _ _
+
+first-half-settled : SettlesResult course.first_half.Reads.Post
+first-half-settled l a = settled _ _
+
+second-half-settled : SettlesResult course.second_half.Reads.Post
+second-half-settled l a = settled _ _
+
+too-long-settled : SettlesResult course.too_long.Reads.Post
+too-long-settled l a = settled _ _
 
 -- ---- roots, whose contract is two inequalities
 

@@ -1,10 +1,15 @@
 -- The fields of a source and of a receiver (METHOD 3 and 4), each once: its number, its bits in a record, its bytes in a
--- slot of the store, its value, and its limits. Records, slots and verdicts are made from these two tables.
+-- slot of the store, its value, and its limits. Records, slots and verdicts are made from these tables.
 use Prim.Native.Nat.{ℕ, suc, _+_, _*_, _^_, _<_}
 use mathlib.Core.Bool.{cond}
 use mathlib.Core.List.{List, [], _∷_, _++_, map}
 use lib.ListN.{getD, replicate, length}
 use lib.Dec.{ltb, eqb}
+use Rattle.course.specs.declared.Piece.{Piece}
+use Rattle.course.specs.declared.Ends.{Ends}
+use Rattle.course.specs.declared.Course.{Course}
+use Rattle.course.specs.declared.Course.the-variants.{Uncut}
+use Rattle.course.specs.Course.{lengthOf}
 use Rattle.road.specs.declared.Traffic.{Traffic}
 use Rattle.road.specs.declared.Source.{Source}
 use Rattle.road.specs.declared.Receiver.{Receiver}
@@ -33,7 +38,29 @@ module _ {A : Type 0} where
   abbrev pub row : ℕ → ℕ → ℕ → (A → ℕ) → ℕ → ℕ → Row A
   row n b k v lo hi = rowBy n b k v (λ a. lo) (λ a. hi)
 
--- ---- the two tables
+-- ---- where a road runs: a piece by its middle and its length, or two ends
+
+abbrev pub pieceTable : List (Row Piece)
+pieceTable =
+    -- number, bits, bytes, value, least, most
+    row 2 24 3 (λ p. p .x) 0 coordinate
+    ∷ row 3 24 3 (λ p. p .y) 0 coordinate
+    ∷ row 4 17 3 (λ p. p .length) 1 longest
+    ∷ []
+
+abbrev pub endsTable : List (Row Ends)
+endsTable =
+    row 2 24 3 (λ e. e .x1) 0 coordinate
+    ∷ row 3 24 3 (λ e. e .y1) 0 coordinate
+    ∷ row 2 24 3 (λ e. e .x2) 0 coordinate
+    ∷ row 3 24 3 (λ e. e .y2) 0 coordinate
+    ∷ []
+
+-- the length of two ends is held nowhere, and judged as that of a piece
+abbrev pub lengthTable : List (Row Ends)
+lengthTable = row 4 0 0 lengthOf 1 longest ∷ []
+
+-- ---- the other fields
 
 -- a gradient is 0 or more up, or 1 or more down with the sign: there is no minus zero
 abbrev pub byFall : ℕ → ℕ → Source → ℕ
@@ -46,11 +73,7 @@ ifWalls n s = cond (eqb (s .walls) 0) 0 n
 -- what the road is like
 abbrev pub roadTable : List (Row Source)
 roadTable =
-    -- number, bits, bytes, value, least, most
-    row 2 24 3 (λ s. s .x) 0 coordinate
-    ∷ row 3 24 3 (λ s. s .y) 0 coordinate
-    ∷ row 4 17 3 (λ s. s .length) 1 longest
-    ∷ row 5 1 1 (λ s. s .lanes) 0 lastLanes
+    row 5 1 1 (λ s. s .lanes) 0 lastLanes
     ∷ row 6 8 1 (λ s. s .car) 1 fastest
     ∷ row 7 8 1 (λ s. s .truck) 1 fastest
     ∷ row 8 4 1 (λ s. s .surface) 1 lastSurface
@@ -72,6 +95,7 @@ trafficTable =
     ∷ row 19 10 2 (λ s. period s 2 .p) 0 allTrucks
     ∷ []
 
+-- all but the course
 abbrev pub sourceTable : List (Row Source)
 sourceTable = roadTable ++ trafficTable
 
@@ -87,27 +111,32 @@ receiverTable =
 abbrev pub trafficOf : ℕ → ℕ → Traffic
 trafficOf m p = record { m = m; p = p }
 
-abbrev pub sourceOf : List ℕ → Source
-sourceOf v =
+abbrev pub pieceOf : List ℕ → Piece
+pieceOf v = record { x = getD v 0 0; y = getD v 1 0; length = getD v 2 0 }
+
+abbrev pub endsOf : List ℕ → Ends
+endsOf v = record { x1 = getD v 0 0; y1 = getD v 1 0; x2 = getD v 2 0; y2 = getD v 3 0 }
+
+-- on a course
+abbrev pub sourceOf : Course → List ℕ → Source
+sourceOf c v =
     record {
-      x = getD v 0 0;
-      y = getD v 1 0;
-      length = getD v 2 0;
-      lanes = getD v 3 0;
-      car = getD v 4 0;
-      truck = getD v 5 0;
-      surface = getD v 6 0;
-      gradient = getD v 7 0;
-      reflection = getD v 8 0;
-      walls = getD v 9 0;
-      height = getD v 10 0;
-      spacing = getD v 11 0;
-      traffic = trafficOf (getD v 12 0) (getD v 13 0) ∷ trafficOf (getD v 14 0) (getD v 15 0) ∷ trafficOf (getD v 16 0) (getD v 17 0) ∷ [];
+      course = c;
+      lanes = getD v 0 0;
+      car = getD v 1 0;
+      truck = getD v 2 0;
+      surface = getD v 3 0;
+      gradient = getD v 4 0;
+      reflection = getD v 5 0;
+      walls = getD v 6 0;
+      height = getD v 7 0;
+      spacing = getD v 8 0;
+      traffic = trafficOf (getD v 9 0) (getD v 10 0) ∷ trafficOf (getD v 11 0) (getD v 12 0) ∷ trafficOf (getD v 13 0) (getD v 14 0) ∷ [];
     }
 
 -- the road alone, without traffic
-abbrev pub roadOf : List ℕ → Source
-roadOf v = sourceOf (map (λ (r : Row Source). r .value (sourceOf v)) roadTable)
+abbrev pub roadOf : Course → List ℕ → Source
+roadOf c v = sourceOf c (map (λ (r : Row Source). r .value (sourceOf c v)) roadTable)
 
 abbrev pub receiverOf : List ℕ → Receiver
 receiverOf v = record { x = getD v 0 0; y = getD v 1 0; height = getD v 2 0 }
@@ -144,9 +173,9 @@ module _ {A : Type 0} where
   abbrev pub rowsBy : List (Row A) → A → List (List ℕ)
   rowsBy t a = map (columns a) t
 
--- a road that rises, between walls: all its fields are 1
+-- a road that rises, between walls: all its fields are 1, wherever it runs
 abbrev pub plain : Source
-plain = sourceOf (replicate (length sourceTable) 1)
+plain = sourceOf (Uncut (pieceOf [])) (replicate (length sourceTable) 1)
 
 -- ---- which numbers the code can take for values
 

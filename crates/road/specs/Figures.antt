@@ -3,6 +3,8 @@
 use Prim.Native.Nat.{ℕ, _-_}
 use mathlib.Core.List.{List, [], _∷_, _++_}
 use Rattle.level.specs.Figures.{Figure, _is_, levels}
+use Rattle.course.specs.declared.Piece.{Piece}
+use Rattle.course.specs.declared.Course.the-variants.{Uncut}
 use Rattle.road.specs.declared.Term.{Term}
 use Rattle.road.specs.declared.Traffic.{Traffic}
 use Rattle.road.specs.declared.Source.{Source}
@@ -14,11 +16,12 @@ use Rattle.road.specs.Reach.{wallsTerm, shareLevel}
 abbrev pub counted : ℕ → Traffic
 counted m = record { m = m; p = 0 }
 
+abbrev pub piece : ℕ → Piece
+piece x = record { x = x; y = 100000; length = 1000 }
+
 abbrev pub road : ℕ → Source
 road x = record {
-  x = x;
-  y = 100000;
-  length = 1000;
+  course = Uncut (piece x);
   lanes = 0;
   car = 100;
   truck = 80;
@@ -47,10 +50,10 @@ roads =
     ∷ (below (speedTerm 100 80 0) is 6) ∷ (below (speedTerm 100 80 200) is 7)
     ∷ (above (gradientTerm 50) is 0) ∷ (above (gradientTerm 51) is 6) ∷ (above (gradientTerm 120) is 420)
     ∷ (above (wallsTerm 1 600 1200) is 200) ∷ (above (wallsTerm 1 1200 1200) is 320) ∷ (above (wallsTerm 2 1200 1200) is 160)
-    ∷ (above (shareLevel (road 102500) home 0) is 6028) ∷ (above (shareLevel (road 102500) home 1) is 6028)
-    ∷ (above (shareLevel (road 102500) home 2) is 5028)
-    ∷ (above (shareLevel (road 110000) home 0) is 4293) ∷ (above (shareLevel (road 110000) home 1) is 4348)
-    ∷ (above (shareLevel (road 110000) home 2) is 3403) ∷ []
+    ∷ (above (shareLevel (road 102500) (piece 102500) home 0) is 6028) ∷ (above (shareLevel (road 102500) (piece 102500) home 1) is 6028)
+    ∷ (above (shareLevel (road 102500) (piece 102500) home 2) is 5028)
+    ∷ (above (shareLevel (road 110000) (piece 110000) home 0) is 4293) ∷ (above (shareLevel (road 110000) (piece 110000) home 1) is 4348)
+    ∷ (above (shareLevel (road 110000) (piece 110000) home 2) is 3403) ∷ []
 
 unfoldable pub figures : List Figure
 figures = levels ++ roads

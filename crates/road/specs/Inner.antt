@@ -6,9 +6,13 @@ use mathlib.Core.List.{List, [], _∷_}
 use lib.ListN.{getD}
 use lib.Dec.{eqb}
 use Rattle.root.specs.Root.{rootOf}
+use Rattle.course.specs.declared.Piece.{Piece}
+use Rattle.course.specs.Course.{wholeOf}
 use Rattle.level.specs.Level.{lvOf, energyOf}
 use Rattle.road.specs.declared.Term.{Term}
 use Rattle.road.specs.declared.Source.{Source}
+use Rattle.road.specs.declared.Receiver.{Receiver}
+use Rattle.road.specs.declared.Shares.{Shares}
 use Rattle.road.specs.declared.Traffic.{Traffic}
 use Rattle.road.specs.declared.Voice.{Voice}
 use Rattle.road.specs.declared.Part.{Part}
@@ -16,10 +20,11 @@ use Rattle.road.specs.declared.Sent.{Sent}
 use Rattle.road.specs.declared.emission.Pace.{Pace}
 use Rattle.road.specs.Term.{term, _⊕_, period}
 use Rattle.road.specs.Emission.{emissionLevel, trafficTerm, surfaceTerm, gradientTerm, reflectionTerm, carSpeed, truckSpeed, truckGain, carLevel}
-use Rattle.road.specs.declared.Bar.the-variants.{Loud}
+use Rattle.road.specs.declared.Bar.{Bar}
+use Rattle.road.specs.declared.Bar.the-variants.{Near, Far, Long, Loud}
 use Rattle.road.specs.declared.Pair.{Pair}
 use Rattle.road.specs.declared.Pair.the-variants.{Heard, Barred}
-use Rattle.road.specs.Reach.{lengthTerm, wallsTerm, distanceTerm, groundTerm, weatherTerm, weatherOf, energyShare, tooLoud}
+use Rattle.road.specs.Reach.{planSquare, spaceSquare, rayHeight, lengthTerm, wallsTerm, distanceTerm, groundTerm, weatherTerm, weatherOf, energyShare, tooLoud, unlessLoud}
 
 -- what speed gives: one car's level, and how much more energy than the car's a truck has, of which p takes its part
 abbrev pub paceOf : Source → Pace
@@ -52,9 +57,9 @@ voiceOf s i =
 unfoldable pub voicesOf : Source → List Voice
 voicesOf s = voiceOf s 0 ∷ voiceOf s 1 ∷ voiceOf s 2 ∷ []
 
--- that, and what its length adds
+-- that, the road as one piece, and what its length adds
 abbrev pub sentOf : Source → Sent
-sentOf s = record { voices = voicesOf s; length = lengthTerm (s .length) }
+sentOf s = record { voices = voicesOf s; whole = wholeOf (s .course); length = lengthTerm (wholeOf (s .course) .length) }
 
 -- the share of a voice by a way
 unfoldable pub voicedPart : Voice → Term → Part
@@ -89,3 +94,31 @@ pairBy day evening night =
 
 unfoldable pub hearOf : List Voice → Term → ℕ → ℕ → ℕ → Pair
 hearOf vs l q0 q h = pairBy (partIn vs l q0 q h 0) (partIn vs l q0 q h 1) (partIn vs l q0 q h 2)
+
+-- the share of the piece p in the period i, by the voices
+abbrev pub voicedShare : Voice → Term → ℕ
+voicedShare v t = cond (v .sounds) (energyShare (v .level ⊕ t)) 0
+
+unfoldable pub shareBy : List Voice → Receiver → Piece → ℕ → ℕ
+shareBy vs r p i = voicedShare (getD vs i silent) (wayOf (lengthTerm (p .length)) (planSquare p r) (spaceSquare p r) (rayHeight r) i)
+
+-- ---- what two parts of a road make together
+
+abbrev pub addedShares : Shares → Shares → Shares
+addedShares x y = record { day = x .day + y .day; evening = x .evening + y .evening; night = x .night + y .night }
+
+-- a bar of the second part by its place comes before the loudness of the first
+abbrev pub afterLoud : Pair → Pair
+afterLoud (Heard y) = Barred Loud
+afterLoud (Barred b) = Barred b
+
+abbrev pub afterBar : Bar → Pair → Pair
+afterBar Near q = Barred Near
+afterBar Far q = Barred Far
+afterBar Long q = Barred Long
+afterBar Loud q = afterLoud q
+
+unfoldable pub joined : Pair → Pair → Pair
+joined (Barred b) q = afterBar b q
+joined (Heard x) (Barred b) = Barred b
+joined (Heard x) (Heard y) = unlessLoud (addedShares x y)

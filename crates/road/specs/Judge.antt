@@ -8,14 +8,16 @@ use lib.Dec.{leb, ltb}
 use Rattle.layout.specs.Bounds.{firstOutside}
 use Rattle.answer.specs.declared.Refusal.{Refusal}
 use Rattle.answer.specs.declared.Refusal.the-variants.{Field, SlowSurface, QuietTruck}
+use Rattle.course.specs.declared.Course.{Course}
+use Rattle.course.specs.declared.Course.the-variants.{Uncut, Between}
 use Rattle.road.specs.declared.Source.{Source}
 use Rattle.road.specs.declared.Receiver.{Receiver}
 use Rattle.road.specs.declared.Verdict.{Verdict}
 use Rattle.road.specs.declared.Verdict.the-variants.{Allowed, Refused}
 use Rattle.road.specs.Emission.{carSpeed, truckSpeed, carLevel, truckLevel}
-use Rattle.road.specs.Fields.{Row, valuesBy, leastBy, mostBy, numberAt, sourceTable, receiverTable}
+use Rattle.road.specs.Fields.{Row, valuesBy, leastBy, mostBy, numberAt, pieceTable, endsTable, lengthTable, sourceTable, receiverTable}
 
--- the fields in order, from field 2 on
+-- the fields in order: of a source those after its course, of a receiver from field 2 on
 abbrev pub sourceFields : Source → List ℕ
 sourceFields s = valuesBy sourceTable s
 
@@ -41,12 +43,21 @@ slowSurface s = leb 5 (s .surface) && leb (carSpeed (s .car)) 60
 abbrev pub quietTruck : Source → Bool
 quietTruck s = ltb (truckLevel (truckSpeed (s .truck))) (carLevel (carSpeed (s .car)))
 
-unfoldable pub sourceVerdict : Source → Verdict
-sourceVerdict s =
+-- the course, which comes first; of two ends the length comes after them
+abbrev pub courseVerdict : Course → Verdict → Verdict
+courseVerdict (Uncut p) v = unlessOutside pieceTable p v
+courseVerdict (Between e) v = unlessOutside endsTable e (unlessOutside lengthTable e v)
+
+-- the fields after it
+unfoldable pub restVerdict : Source → Verdict
+restVerdict s =
     unlessOutside sourceTable s
     (cond (slowSurface s) (Refused SlowSurface)
     (cond (quietTruck s) (Refused QuietTruck)
     Allowed))
+
+unfoldable pub sourceVerdict : Source → Verdict
+sourceVerdict s = courseVerdict (s .course) (restVerdict s)
 
 unfoldable pub receiverVerdict : Receiver → Verdict
 receiverVerdict r = unlessOutside receiverTable r Allowed

@@ -34,5 +34,8 @@ abbrev pub mostShare : ℕ
 mostShare = 1000000000000000
 
 -- the law of a pairing: no share is above it
+abbrev pub Mild : Pair → Type 0
+Mild p = (i : ℕ) → shareIn p i ≤ mostShare
+
 abbrev pub Bounded : Pairing → Type 0
-Bounded pair = (s : Source) (r : Receiver) (i : ℕ) → shareIn (pair s r) i ≤ mostShare
+Bounded pair = (s : Source) (r : Receiver) → Mild (pair s r)

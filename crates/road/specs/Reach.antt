@@ -1,12 +1,20 @@
--- What of a road reaches a point (VBUS sections 3.3, 3.4, 3.6 to 3.8 and 3.10, METHOD 7): the share level, its terms, and the pair's answer.
--- Lengths are in cm. `rootOf` is the root, down.
+-- What of a road reaches a point (VBUS sections 3.3, 3.4, 3.6 to 3.8 and 3.10, METHOD 5, 7 and 9): the share level of a piece, its terms,
+-- the road's pieces, and the pair's answer. Lengths are in cm. `rootOf` is the root, down.
 use Prim.Native.Nat.{ℕ, _+_, _-_, _*_, _/_, _%_, _^_, min, max}
+use mathlib.Core.Path.{_≡_}
+use mathlib.Core.Logic.{_≢_}
 use mathlib.Core.Bool.{Bool, true, false, cond, not, _||_}
+use mathlib.Core.Option.{Option, none, some}
 use mathlib.Core.List.{List, [], _∷_}
 use lib.ListN.{getD}
 use lib.Dec.{leb, ltb, eqb}
 use Rattle.level.specs.Level.{lvOf, energyOf}
 use Rattle.root.specs.Root.{rootOf}
+use Rattle.course.specs.declared.Piece.{Piece}
+use Rattle.course.specs.declared.Ends.{Ends}
+use Rattle.course.specs.declared.Course.{Course}
+use Rattle.course.specs.declared.Course.the-variants.{Uncut, Between}
+use Rattle.course.specs.Course.{square, planBetween, piecesOf}
 use Rattle.road.specs.declared.Term.{Term}
 use Rattle.road.specs.declared.Traffic.{Traffic}
 use Rattle.road.specs.declared.Source.{Source}
@@ -19,24 +27,19 @@ use Rattle.road.specs.declared.Pair.{Pair}
 use Rattle.road.specs.declared.Pair.the-variants.{Heard, Barred}
 use Rattle.road.specs.Term.{term, adds, takes, _⊕_, period}
 use Rattle.road.specs.Emission.{emissionLevel}
+use Rattle.road.specs.Pairs.{mostShare}
 
--- ---- the squared distances: in the plan, Q0, and in space, Q
+-- ---- the squared distances from the middle of a piece: in the plan, Q0, and in space, Q
 
 -- how high above the road the source is
 abbrev pub sourceHeight : ℕ
 sourceHeight = 50
 
-abbrev pub apart : ℕ → ℕ → ℕ
-apart a b = (a - b) + (b - a)
+unfoldable pub planSquare : Piece → Receiver → ℕ
+planSquare p r = planBetween (p .x) (p .y) (r .x) (r .y)
 
-abbrev pub square : ℕ → ℕ
-square n = n * n
-
-unfoldable pub planSquare : Source → Receiver → ℕ
-planSquare s r = square (apart (s .x) (r .x)) + square (apart (s .y) (r .y))
-
-unfoldable pub spaceSquare : Source → Receiver → ℕ
-spaceSquare s r = planSquare s r + square (r .height - sourceHeight)
+unfoldable pub spaceSquare : Piece → Receiver → ℕ
+spaceSquare p r = planSquare p r + square (r .height - sourceHeight)
 
 -- ---- how near and how far apart, and how loud a pair may be: squared distances, and a level
 
@@ -82,43 +85,97 @@ weatherOf i = getD (200 ∷ 100 ∷ 0 ∷ []) i 0
 unfoldable pub weatherTerm : ℕ → ℕ → ℕ → Term
 weatherTerm c h r0 = takes (cond (leb r0 (10 * h)) 0 (c * (r0 - 10 * h) / r0))
 
--- ---- section 3.4, equation 6: the share level in the period i
+-- ---- section 3.4, equation 6: the share level of a piece of a road in the period i
 
 abbrev pub rayHeight : Receiver → ℕ
 rayHeight r = r .height + sourceHeight
 
-unfoldable pub shareLevel : Source → Receiver → ℕ → Term
-shareLevel s r i =
+unfoldable pub shareLevel : Source → Piece → Receiver → ℕ → Term
+shareLevel s p r i =
     emissionLevel s i
-    ⊕ lengthTerm (s .length)
-    ⊕ distanceTerm (spaceSquare s r) (rootOf (spaceSquare s r))
-    ⊕ groundTerm (rayHeight r) (rootOf (spaceSquare s r))
+    ⊕ lengthTerm (p .length)
+    ⊕ distanceTerm (spaceSquare p r) (rootOf (spaceSquare p r))
+    ⊕ groundTerm (rayHeight r) (rootOf (spaceSquare p r))
     ⊕ wallsTerm (s .walls) (s .height) (s .spacing)
-    ⊕ weatherTerm (weatherOf i) (rayHeight r) (rootOf (planSquare s r))
+    ⊕ weatherTerm (weatherOf i) (rayHeight r) (rootOf (planSquare p r))
 
 -- the energy of a share level: one below 0 adds nothing
 unfoldable pub energyShare : Term → ℕ
 energyShare t = cond (ltb (t .up) (t .down)) 0 (energyOf (t .up - t .down))
 
+-- a period without traffic has no share
+unfoldable pub shareOf : Source → Piece → Receiver → ℕ → ℕ
+shareOf s p r i = cond (eqb (period s i .m) 0) 0 (energyShare (shareLevel s p r i))
+
+-- ---- the pieces of a road for a point (METHOD 5), and what they bring: their shares in each period, added up
+
+abbrev pub piecesFor : Receiver → Course → List Piece
+piecesFor r c = piecesOf (λ p. spaceSquare p r) c
+
+abbrev pub sumOf : (Piece → ℕ) → List Piece → ℕ
+sumOf f [] = 0
+sumOf f (p ∷ ps) = f p + sumOf f ps
+
+-- f p i is the share of the piece p in the period i
+abbrev pub sharesOver : (Piece → ℕ → ℕ) → List Piece → Shares
+sharesOver f ps = record { day = sumOf (λ p. f p 0) ps; evening = sumOf (λ p. f p 1) ps; night = sumOf (λ p. f p 2) ps }
+
+-- ---- the pair: bars 10 to 13, or the three shares (section 3.3 for the length)
+
+-- what bars a piece by its place and its length
+unfoldable pub barOf : Piece → Receiver → Option Bar
+barOf p r =
+    cond (ltb (spaceSquare p r) nearest) (some Near)
+    (cond (ltb farthest (spaceSquare p r)) (some Far)
+    (cond (ltb (spaceSquare p r) (4 * square (p .length))) (some Long)
+    none))
+
+-- the bar of the first piece that has one
+abbrev pub firstOr : Option Bar → Option Bar → Option Bar
+firstOr (some b) o = some b
+firstOr none o = o
+
+abbrev pub firstBar : Receiver → List Piece → Option Bar
+firstBar r [] = none
+firstBar r (p ∷ ps) = firstOr (barOf p r) (firstBar r ps)
+
+-- 13: a share is above 90.00 dB
+abbrev pub unlessLoud : Shares → Pair
+unlessLoud h = cond (ltb mostShare (h .day) || ltb mostShare (h .evening) || ltb mostShare (h .night)) (Barred Loud) (Heard h)
+
+abbrev pub unlessBarred : Option Bar → Pair → Pair
+unlessBarred (some b) q = Barred b
+unlessBarred none q = q
+
+abbrev pub pairOver : (Piece → ℕ → ℕ) → Receiver → List Piece → Pair
+pairOver f r ps = unlessBarred (firstBar r ps) (unlessLoud (sharesOver f ps))
+
+unfoldable pub pairOf : Source → Receiver → Pair
+pairOf s r = pairOver (λ p i. shareOf s p r i) r (piecesFor r (s .course))
+
+-- ---- what is promised of the two courses
+
 abbrev pub tooLoud : Term → Bool
 tooLoud t = ltb loudest (t .up - t .down)
 
--- a period without traffic has no share and is not loud
-unfoldable pub shareOf : Source → Receiver → ℕ → ℕ
-shareOf s r i = cond (eqb (period s i .m) 0) 0 (energyShare (shareLevel s r i))
+-- a period without traffic is not loud
+unfoldable pub loudIn : Source → Piece → Receiver → ℕ → Bool
+loudIn s p r i = cond (eqb (period s i .m) 0) false (tooLoud (shareLevel s p r i))
 
-unfoldable pub loudIn : Source → Receiver → ℕ → Bool
-loudIn s r i = cond (eqb (period s i .m) 0) false (tooLoud (shareLevel s r i))
+unfoldable pub sharesOf : Source → Piece → Receiver → Shares
+sharesOf s p r = record { day = shareOf s p r 0; evening = shareOf s p r 1; night = shareOf s p r 2 }
 
--- ---- the pair: bars 10 to 13 in their order, or the three shares (section 3.3 for the length)
+-- a piece by itself, with bar 13 by its levels: one of them above 90.00 dB
+abbrev pub pieceAlone : Source → Piece → Receiver → Pair
+pieceAlone s p r =
+    cond (ltb (spaceSquare p r) nearest) (Barred Near)
+    (cond (ltb farthest (spaceSquare p r)) (Barred Far)
+    (cond (ltb (spaceSquare p r) (4 * square (p .length))) (Barred Long)
+    (cond (loudIn s p r 0 || loudIn s p r 1 || loudIn s p r 2) (Barred Loud)
+    (Heard (sharesOf s p r)))))
 
-unfoldable pub sharesOf : Source → Receiver → Shares
-sharesOf s r = record { day = shareOf s r 0; evening = shareOf s r 1; night = shareOf s r 2 }
-
-unfoldable pub pairOf : Source → Receiver → Pair
-pairOf s r =
-    cond (ltb (spaceSquare s r) nearest) (Barred Near)
-    (cond (ltb farthest (spaceSquare s r)) (Barred Far)
-    (cond (ltb (spaceSquare s r) (4 * square (s .length))) (Barred Long)
-    (cond (loudIn s r 0 || loudIn s r 1 || loudIn s r 2) (Barred Loud)
-    (Heard (sharesOf s r)))))
+pub record Promises : Type 0 where
+  -- a road that is told by its middle and its length is that piece by itself
+  pub uncut : (s : Source) (r : Receiver) (p : Piece) → s .course ≡ Uncut p → pairOf s r ≡ pieceAlone s p r
+  -- and one that is told by its ends is never barred for its length
+  pub never-long : (s : Source) (r : Receiver) (e : Ends) → s .course ≡ Between e → pairOf s r ≢ Barred Long

@@ -211,7 +211,7 @@ fn steady_of(s: Source) -> Term
 }
 
 // Section 3.4: what a length adds.
-fn length(steps: &[u32; 1000], l: u32) -> Term
+pub fn length(steps: &[u32; 1000], l: u32) -> Term
     requires { ⌜ (now steps ≡ table) × (1 ≤ l) × (l ≤ longest) ⌝ }
     ensures { λ r. ⌜ r ≡ lengthTerm l ⌝ }
 {
@@ -263,6 +263,12 @@ pub fn send(steps: &[u32; 1000], s: Source) -> Sent
     ensures { λ r. ⌜ r ≡ sentOf s ⌝ }
 {
     let voices = voices(steps, s);
-    let length = length(steps, s.length);
-    Sent { voices, length }
+    let course = s.course;
+    let whole = course::whole_of(course);
+    let length = length(steps, whole.length);
+    Sent {
+        voices,
+        whole,
+        length,
+    }
 }

@@ -5,15 +5,23 @@ use crate::Source;
 use crate::Traffic;
 use crate::emission;
 use crate::limits;
+use course::Course;
+use course::Ends;
+use course::Piece;
 ghost use mathlib.Core.Path.{_≡_};
 ghost use mathlib.Core.Bool.{cond};
 ghost use mathlib.Core.List.{[]};
 ghost use Prim.Native.Nat.{_+_, _^_, _≤_, _<_};
 ghost use lib.ListN.{length, getD, drop};
-ghost use Rattle.road.specs.Fields.{roadTable, sourceTable, receiverTable, trafficOf, sourceOf, roadOf, receiverOf, valuesBy, leastBy, mostBy, slotBitsBy, rowsBy, plain, Fit};
+ghost use Rattle.road.specs.Fields.{pieceTable, endsTable, roadTable, sourceTable, receiverTable, trafficOf, pieceOf, endsOf, sourceOf, roadOf, receiverOf, valuesBy, leastBy, mostBy, slotBitsBy, rowsBy, plain, Fit};
 
-// How many fields a source has beside the slot, those of the road first and then those of its traffic; and a receiver.
-pub const ROAD_ROWS: usize = 12;
+// How many fields the course of a source has, as a piece or as two ends.
+pub const PIECE_ROWS: usize = 3;
+
+pub const ENDS_ROWS: usize = 4;
+
+// How many it has after them, those of the road first and then those of its traffic; and a receiver beside the slot.
+pub const ROAD_ROWS: usize = 9;
 
 pub const SOURCE_ROWS: usize = ROAD_ROWS + 6;
 
@@ -30,14 +38,28 @@ const LEAST: usize = 3;
 
 const MOST: usize = 4;
 
-// The rows of a source. The limits of the gradient are for a road that rises, those of height and spacing for walls that are there.
-pub const SOURCE: [[u64; 5]; SOURCE_ROWS] = [
-    // x, y, length, lanes
+// The rows of a piece.
+pub const PIECE: [[u64; 5]; PIECE_ROWS] = [
+    // x, y, length
     [2, 24, 3, 0, limits::COORDINATE],
     [3, 24, 3, 0, limits::COORDINATE],
     [4, 17, 3, 1, limits::LONGEST],
+];
+
+// The rows of two ends.
+pub const ENDS: [[u64; 5]; ENDS_ROWS] = [
+    // x, y of the first, x, y of the second
+    [2, 24, 3, 0, limits::COORDINATE],
+    [3, 24, 3, 0, limits::COORDINATE],
+    [2, 24, 3, 0, limits::COORDINATE],
+    [3, 24, 3, 0, limits::COORDINATE],
+];
+
+// The rows of a source after its course. The limits of the gradient are for a road that rises, those of height and spacing for walls
+// that are there.
+pub const SOURCE: [[u64; 5]; SOURCE_ROWS] = [
+    // lanes, cars, trucks, surface, gradient, reflection
     [5, 1, 1, 0, limits::LAST_LANES],
-    // cars, trucks, surface, gradient, reflection
     [6, 8, 1, 1, limits::FASTEST],
     [7, 8, 1, 1, limits::FASTEST],
     [8, 4, 1, 1, limits::LAST_SURFACE],
@@ -64,7 +86,29 @@ pub const RECEIVER: [[u64; 5]; RECEIVER_ROWS] = [
     [4, 9, 2, limits::LOWEST_RECEIVER, limits::HIGHEST_RECEIVER],
 ];
 
-// The two columns of limits, of a receiver and of a source.
+// The two columns of limits, of a piece, of two ends, of a receiver and of a source.
+pub(crate) const PIECE_LEAST: [u64; PIECE_ROWS] = [
+    PIECE[0][LEAST],
+    PIECE[1][LEAST],
+    PIECE[2][LEAST],
+];
+
+pub(crate) const PIECE_MOST: [u64; PIECE_ROWS] = [PIECE[0][MOST], PIECE[1][MOST], PIECE[2][MOST]];
+
+pub(crate) const ENDS_LEAST: [u64; ENDS_ROWS] = [
+    ENDS[0][LEAST],
+    ENDS[1][LEAST],
+    ENDS[2][LEAST],
+    ENDS[3][LEAST],
+];
+
+pub(crate) const ENDS_MOST: [u64; ENDS_ROWS] = [
+    ENDS[0][MOST],
+    ENDS[1][MOST],
+    ENDS[2][MOST],
+    ENDS[3][MOST],
+];
+
 pub(crate) const RECEIVER_LEAST: [u64; RECEIVER_ROWS] = [
     RECEIVER[0][LEAST],
     RECEIVER[1][LEAST],
@@ -93,9 +137,6 @@ const SOURCE_LEAST: [u64; SOURCE_ROWS] = [
     SOURCE[12][LEAST],
     SOURCE[13][LEAST],
     SOURCE[14][LEAST],
-    SOURCE[15][LEAST],
-    SOURCE[16][LEAST],
-    SOURCE[17][LEAST],
 ];
 
 const SOURCE_MOST: [u64; SOURCE_ROWS] = [
@@ -114,17 +155,28 @@ const SOURCE_MOST: [u64; SOURCE_ROWS] = [
     SOURCE[12][MOST],
     SOURCE[13][MOST],
     SOURCE[14][MOST],
-    SOURCE[15][MOST],
-    SOURCE[16][MOST],
-    SOURCE[17][MOST],
 ];
 
 // The rows whose limits depend on a field before them.
-const GRADIENT: usize = 7;
+const GRADIENT: usize = 4;
 
-const HEIGHT: usize = 10;
+const HEIGHT: usize = 7;
 
-const SPACING: usize = 11;
+const SPACING: usize = 8;
+
+// The rows of a piece.
+pub(crate) fn piece_rows() -> [[u64; 5]; PIECE_ROWS]
+    ensures { λ r. ⌜ r ≡ rowsBy pieceTable (pieceOf []) ⌝ }
+{
+    PIECE
+}
+
+// The rows of two ends.
+pub(crate) fn ends_rows() -> [[u64; 5]; ENDS_ROWS]
+    ensures { λ r. ⌜ r ≡ rowsBy endsTable (endsOf []) ⌝ }
+{
+    ENDS
+}
 
 // The rows of a source, with the limits of a road that rises between walls.
 pub(crate) fn source_rows() -> [[u64; 5]; SOURCE_ROWS]
@@ -140,7 +192,21 @@ pub(crate) fn receiver_rows() -> [[u64; 5]; RECEIVER_ROWS]
     RECEIVER
 }
 
-// The values of a source.
+// The values of a piece.
+pub fn piece_values(p: Piece) -> [u64; PIECE_ROWS]
+    ensures { λ v. ⌜ v ≡ valuesBy pieceTable p ⌝ }
+{
+    [p.x as u64, p.y as u64, p.length as u64]
+}
+
+// The values of two ends.
+pub fn ends_values(e: Ends) -> [u64; ENDS_ROWS]
+    ensures { λ v. ⌜ v ≡ valuesBy endsTable e ⌝ }
+{
+    [e.x1 as u64, e.y1 as u64, e.x2 as u64, e.y2 as u64]
+}
+
+// The values of a source after its course.
 pub fn source_values(s: Source) -> [u64; SOURCE_ROWS]
     ensures { λ r. ⌜ r ≡ valuesBy sourceTable s ⌝ }
 {
@@ -149,9 +215,6 @@ pub fn source_values(s: Source) -> [u64; SOURCE_ROWS]
     let evening = traffic[1];
     let night = traffic[2];
     [
-        s.x as u64,
-        s.y as u64,
-        s.length as u64,
         s.lanes as u64,
         s.car as u64,
         s.truck as u64,
@@ -177,26 +240,65 @@ pub fn receiver_values(r: Receiver) -> [u64; RECEIVER_ROWS]
     [r.x as u64, r.y as u64, r.height as u64]
 }
 
-// The road of the values at the front of v, without traffic.
-pub fn road_of(v: &[u64]) -> Source
+// The piece of the values at the front of v.
+fn piece_by(v: &[u64]) -> Piece
+    requires { ⌜ (length pieceTable ≤ length (now v)) × Fit (slotBitsBy pieceTable) 0 (now v) ⌝ }
+    ensures { λ r. ⌜ r ≡ pieceOf (now (v .entry)) ⌝ }
+{
+    Piece {
+        x: v[0] as u32,
+        y: v[1] as u32,
+        length: v[2] as u32,
+    }
+}
+
+// The piece of the values from index at on.
+pub fn piece_of(v: &[u64], at: usize) -> Piece
+    requires { ⌜ (at + length pieceTable ≤ length (now v)) × Fit (slotBitsBy pieceTable) at (now v) ⌝ }
+    ensures { λ r. ⌜ r ≡ pieceOf (drop at (now (v .entry))) ⌝ }
+{
+    piece_by(&v[at..])
+}
+
+// The two ends of the values at the front of v.
+fn ends_by(v: &[u64]) -> Ends
+    requires { ⌜ (length endsTable ≤ length (now v)) × Fit (slotBitsBy endsTable) 0 (now v) ⌝ }
+    ensures { λ r. ⌜ r ≡ endsOf (now (v .entry)) ⌝ }
+{
+    Ends {
+        x1: v[0] as u32,
+        y1: v[1] as u32,
+        x2: v[2] as u32,
+        y2: v[3] as u32,
+    }
+}
+
+// The two ends of the values from index at on.
+pub fn ends_of(v: &[u64], at: usize) -> Ends
+    requires { ⌜ (at + length endsTable ≤ length (now v)) × Fit (slotBitsBy endsTable) at (now v) ⌝ }
+    ensures { λ r. ⌜ r ≡ endsOf (drop at (now (v .entry))) ⌝ }
+{
+    ends_by(&v[at..])
+}
+
+// The road on a course with the values at the front of v, without traffic.
+pub fn road_of(course: Course, v: &[u64]) -> Source
     requires { ⌜ (length roadTable ≤ length (now v)) × Fit (slotBitsBy roadTable) 0 (now v) ⌝ }
-    ensures { λ r. ⌜ r ≡ roadOf (now (v .entry)) ⌝ }
+    ensures { λ r. ⌜ r ≡ roadOf course (now (v .entry)) ⌝ }
 {
     let none = Traffic { m: 0, p: 0 };
     let traffic = [none, none, none];
     Source {
-        x: v[0] as u32,
-        y: v[1] as u32,
-        length: v[2] as u32,
-        lanes: v[3] as u8,
-        car: v[4] as u8,
-        truck: v[5] as u8,
-        surface: v[6] as u8,
-        gradient: v[7] as u8,
-        reflection: v[8] as u8,
-        walls: v[9] as u8,
-        height: v[10] as u16,
-        spacing: v[11] as u16,
+        course,
+        lanes: v[0] as u8,
+        car: v[1] as u8,
+        truck: v[2] as u8,
+        surface: v[3] as u8,
+        gradient: v[4] as u8,
+        reflection: v[5] as u8,
+        walls: v[6] as u8,
+        height: v[7] as u16,
+        spacing: v[8] as u16,
         traffic,
     }
 }
@@ -211,25 +313,25 @@ fn traffic_of(v: &[u64], at: usize) -> Traffic
     Traffic { m, p }
 }
 
-// The source of the values at the front of v.
-fn source_by(v: &[u64]) -> Source
+// The source on a course with the values at the front of v.
+fn source_by(course: Course, v: &[u64]) -> Source
     requires { ⌜ (length sourceTable ≤ length (now v)) × Fit (slotBitsBy sourceTable) 0 (now v) ⌝ }
-    ensures { λ r. ⌜ r ≡ sourceOf (now (v .entry)) ⌝ }
+    ensures { λ r. ⌜ r ≡ sourceOf course (now (v .entry)) ⌝ }
 {
-    let day = traffic_of(v, 12);
-    let evening = traffic_of(v, 14);
-    let night = traffic_of(v, 16);
-    let mut s = road_of(v);
+    let day = traffic_of(v, 9);
+    let evening = traffic_of(v, 11);
+    let night = traffic_of(v, 13);
+    let mut s = road_of(course, v);
     s.traffic = [day, evening, night];
     s
 }
 
-// The source of the values from index at on.
-pub fn source_of(v: &[u64], at: usize) -> Source
+// The source on a course with the values from index at on.
+pub fn source_of(course: Course, v: &[u64], at: usize) -> Source
     requires { ⌜ (at + length sourceTable ≤ length (now v)) × Fit (slotBitsBy sourceTable) at (now v) ⌝ }
-    ensures { λ r. ⌜ r ≡ sourceOf (drop at (now (v .entry))) ⌝ }
+    ensures { λ r. ⌜ r ≡ sourceOf course (drop at (now (v .entry))) ⌝ }
 {
-    source_by(&v[at..])
+    source_by(course, &v[at..])
 }
 
 // The receiver of the values at the front of v.

@@ -5,13 +5,18 @@ use crate::Source;
 use crate::Verdict;
 use crate::emission;
 use crate::fields;
+use crate::limits;
 use answer::Refusal;
+use course::Course;
+use course::Ends;
+use course::Piece;
 ghost use mathlib.Core.Path.{_≡_};
 ghost use Prim.Native.Nat.{_<_};
 ghost use lib.ListN.{length};
 ghost use Rattle.level.specs.Table.{table};
-ghost use Rattle.road.specs.Fields.{roadTable, sourceTable, receiverTable, numberAt};
-ghost use Rattle.road.specs.Judge.{unlessOutside, sourceVerdict, receiverVerdict, slotVerdict, quietTruck};
+ghost use Rattle.road.specs.Fields.{pieceTable, endsTable, lengthTable, roadTable, sourceTable, receiverTable, numberAt};
+ghost use Rattle.road.specs.Judge.{unlessOutside, courseVerdict, restVerdict, sourceVerdict, receiverVerdict, slotVerdict, quietTruck};
+ghost use Rattle.course.specs.Course.{Mapped};
 
 // Whether the trucks are quieter than the cars.
 fn quiet_truck(steps: &[u32; 1000], s: Source) -> bool
@@ -33,6 +38,26 @@ fn source_number(i: usize) -> u16
     row[fields::NUMBER] as u16
 }
 
+// Of a piece.
+fn piece_number(i: usize) -> u16
+    requires { ⌜ i < length pieceTable ⌝ }
+    ensures { λ r. ⌜ r ≡ numberAt pieceTable i ⌝ }
+{
+    let rows = fields::piece_rows();
+    let row = rows[i];
+    row[fields::NUMBER] as u16
+}
+
+// Of two ends.
+fn ends_number(i: usize) -> u16
+    requires { ⌜ i < length endsTable ⌝ }
+    ensures { λ r. ⌜ r ≡ numberAt endsTable i ⌝ }
+{
+    let rows = fields::ends_rows();
+    let row = rows[i];
+    row[fields::NUMBER] as u16
+}
+
 // And of a receiver.
 fn receiver_number(i: usize) -> u16
     requires { ⌜ i < length receiverTable ⌝ }
@@ -43,10 +68,66 @@ fn receiver_number(i: usize) -> u16
     row[fields::NUMBER] as u16
 }
 
-// Whether the fields of a source are allowed.
-pub fn judge_source(steps: &[u32; 1000], s: Source) -> Verdict
+// Whether a piece and then what else is judged are allowed.
+pub fn judge_piece(p: Piece, other: Verdict) -> Verdict
+    ensures { λ v. ⌜ v ≡ unlessOutside pieceTable p other ⌝ }
+{
+    let values = fields::piece_values(p);
+    let least = fields::PIECE_LEAST;
+    let most = fields::PIECE_MOST;
+    let at = layout::first_outside(&least, &most, &values);
+    if at < fields::PIECE_ROWS {
+        let number = piece_number(at);
+        return Verdict::Refused(Refusal::Field(number));
+    }
+    other
+}
+
+// Whether the length of two ends and then what else is judged are allowed.
+fn judge_length(e: Ends, other: Verdict) -> Verdict
+    requires { ⌜ Mapped e ⌝ }
+    ensures { λ v. ⌜ v ≡ unlessOutside lengthTable e other ⌝ }
+{
+    let long = course::length(e) as u64;
+    let values = [long];
+    let least = [1u64];
+    let most = [limits::LONGEST];
+    let at = layout::first_outside(&least, &most, &values);
+    if at < 1 {
+        return Verdict::Refused(Refusal::Field(4));
+    }
+    other
+}
+
+// Whether two ends and then what else is judged are allowed.
+fn judge_ends(e: Ends, other: Verdict) -> Verdict
+    ensures { λ v. ⌜ v ≡ unlessOutside endsTable e (unlessOutside lengthTable e other) ⌝ }
+{
+    let values = fields::ends_values(e);
+    let least = fields::ENDS_LEAST;
+    let most = fields::ENDS_MOST;
+    let at = layout::first_outside(&least, &most, &values);
+    if at < fields::ENDS_ROWS {
+        let number = ends_number(at);
+        return Verdict::Refused(Refusal::Field(number));
+    }
+    judge_length(e, other)
+}
+
+// Whether a course and then what else is judged are allowed.
+fn judge_course(course: Course, other: Verdict) -> Verdict
+    ensures { λ v. ⌜ v ≡ courseVerdict course other ⌝ }
+{
+    match course {
+        Course::Uncut(p) => judge_piece(p, other),
+        Course::Between(e) => judge_ends(e, other),
+    }
+}
+
+// Whether the fields of a source after its course are allowed.
+fn judge_rest(steps: &[u32; 1000], s: Source) -> Verdict
     requires { ⌜ now steps ≡ table ⌝ }
-    ensures { λ r. ⌜ r ≡ sourceVerdict s ⌝ }
+    ensures { λ r. ⌜ r ≡ restVerdict s ⌝ }
 {
     let values = fields::source_values(s);
     let least = fields::source_least(s);
@@ -65,7 +146,16 @@ pub fn judge_source(steps: &[u32; 1000], s: Source) -> Verdict
     Verdict::Allowed
 }
 
-// Whether the fields of a road, without its traffic, and then what else is judged are allowed.
+// Whether the fields of a source are allowed.
+pub fn judge_source(steps: &[u32; 1000], s: Source) -> Verdict
+    requires { ⌜ now steps ≡ table ⌝ }
+    ensures { λ r. ⌜ r ≡ sourceVerdict s ⌝ }
+{
+    let course = s.course;
+    judge_course(course, judge_rest(steps, s))
+}
+
+// Whether the fields of a road, without its course and its traffic, and then what else is judged are allowed.
 pub fn judge_road(s: Source, other: Verdict) -> Verdict
     ensures { λ v. ⌜ v ≡ unlessOutside roadTable s other ⌝ }
 {

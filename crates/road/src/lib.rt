@@ -6,6 +6,8 @@ pub mod judge;
 pub mod limits;
 
 use answer::Refusal;
+use course::Course;
+use course::Piece;
 
 // Traffic of one period: M in thousandths of a vehicle per hour, p in tenths of a percent.
 pub struct Traffic {
@@ -13,12 +15,10 @@ pub struct Traffic {
     pub p: u16,
 }
 
-// A piece of road, the source's fields 2 to 19 of METHOD 4. Lengths are in cm. The gradient is the field's eight bits: 128 for a
-// road that falls, and the tenths of a percent.
+// A road, the source's fields 2 to 19 of METHOD 4; those up to 4 are its course. Lengths are in cm. The gradient is the field's eight
+// bits: 128 for a road that falls, and the tenths of a percent.
 pub struct Source {
-    pub x: u32,
-    pub y: u32,
-    pub length: u32,
+    pub course: Course,
     pub lanes: u8,
     pub car: u8,
     pub truck: u8,
@@ -50,9 +50,10 @@ pub struct Voice {
     pub level: Term,
 }
 
-// What a road sends out: its voices by day, in the evening and at night, and what its length adds.
+// What a road sends out: its voices by day, in the evening and at night, all of it as one piece, and what the length of that adds.
 pub struct Sent {
     pub voices: [Voice; 3],
+    pub whole: Piece,
     pub length: Term,
 }
 

@@ -1,15 +1,19 @@
--- `pair` tries the bars in their order, and then hears. Assumes nothing.
-use mathlib.Core.Path.{_≡_, sym, ap, _∙_}
-use Prim.Native.Nat.{ℕ, _+_, _-_, _*_, _≤_}
+-- `pair` looks at all of the road as one piece, and cuts one that is told by its ends. Assumes nothing.
+use mathlib.Core.Path.{_≡_, sym, ap, _∙_, subst, subst⁻¹}
+use mathlib.Core.List.{List, [], _∷_}
 use native.Mathlib.Omega.{arith}
 use borrow.Author.Needs.{needs}
-use Rattle.road.specs.Limits.{coordinate, longest, highestReceiver}
-use Rattle.road.specs.Reach.{sourceHeight, square, planSquare, spaceSquare, rayHeight}
-use Rattle.road.specs.Inner.{hearOf}
-use Rattle.road.proofs.Bounds.{times}
-use Rattle.road.proofs.Fit.{FitSource, FitReceiver, fit-source, fit-receiver}
-use Rattle.road.proofs.Sums.{moderate, small-length}
-use Rattle.road.proofs.Pairs.{pair-near, pair-far, pair-long, pair-within}
+use Rattle.course.specs.declared.Piece.{Piece}
+use Rattle.course.specs.declared.Course.{Course}
+use Rattle.course.specs.Course.{wholeOf, onePiece}
+use Rattle.road.specs.Reach.{planSquare, spaceSquare, lengthTerm, piecesFor, sharesOver, firstBar, unlessLoud, unlessBarred, shareOf, pairOver, pairOf}
+use Rattle.road.specs.Inner.{voicesOf, shareBy, Moderate}
+use Rattle.road.specs.declared.Source.{Source}
+use Rattle.road.specs.declared.Receiver.{Receiver}
+use Rattle.road.proofs.Fit.{FitSource, FitCourse, FitPiece, FitReceiver, fit-source, fit-whole, fit-receiver}
+use Rattle.road.proofs.Sums.{moderate}
+use Rattle.road.proofs.Pairs.{shares-by}
+use Rattle.reach.proofs.Laws.{plan-most, space-is}
 use Rattle.reach.proofs.pair.Statement.{statement}
 use Rattle.reach.proofs.pair.Tie as tie
 
@@ -20,97 +24,90 @@ source c = fit-source (c .args .s) (c .pre .1)
 receiver : (c : tie.Start) → FitReceiver (c .args .r)
 receiver c = fit-receiver (c .args .r) (c .pre .3)
 
+whole : (c : tie.Start) → c .args .sent .whole ≡ wholeOf (c .args .s .course)
+whole c = λ i. c .pre .2 i .whole
+
+piece : (c : tie.Start) → FitPiece (c .args .sent .whole)
+piece c = subst⁻¹ FitPiece (whole c) (fit-whole (c .args .s .course) (source c .course))
+
+sounding : (c : tie.Start) → Moderate (c .args .sent .voices)
+sounding c = subst⁻¹ Moderate (λ i. c .pre .2 i .voices) (moderate (c .args .s) (source c))
+
+lengthened : (c : tie.Start) → c .args .sent .length ≡ lengthTerm (c .args .sent .whole .length)
+lengthened c = (λ i. c .pre .2 i .length) ∙ sym (ap (λ (p : Piece). lengthTerm (p .length)) (whole c))
+
+-- the pair of any pieces by the voices that were sent is that of the source
+sent-by : (c : tie.Start) (ps : List Piece) → piecesFor (c .args .r) (c .args .s .course) ≡ ps
+    → pairOver (shareBy (c .args .sent .voices) (c .args .r)) (c .args .r) ps ≡ pairOf (c .args .s) (c .args .r)
+unfolding pairOf
+sent-by c ps e =
+    let s = c .args .s in
+    let r = c .args .r in
+    (λ i. unlessBarred (firstBar r ps) (unlessLoud (sharesOver (shareBy (c .pre .2 i .voices) r) ps)))
+    ∙ (λ i. unlessBarred (firstBar r ps) (unlessLoud (shares-by s r ps i)))
+    ∙ sym (ap (pairOver (λ p i. shareOf s p r i) r) e)
+
 plan-requires : tie.Need-plan-requires
-plan-requires c κs = let s = source c in let r = receiver c in (omega (arith, s .x), omega (arith, s .y), omega (arith, r .x), omega (arith, r .y))
-
--- the rise is up to that of the highest point, and the squares of coordinates are below 2^49
-rise : (c : tie.Start) → square (c .args .r .height - sourceHeight) ≤ square (highestReceiver - sourceHeight)
-rise c = times (c .args .r .height - sourceHeight) (c .args .r .height - sourceHeight) (highestReceiver - sourceHeight) (highestReceiver - sourceHeight) (omega (arith, receiver c .high)) (omega (arith, receiver c .high))
-
-plan-small : (c : tie.Start) → planSquare (c .args .s) (c .args .r) ≤ 600000000000000
-unfolding planSquare
-plan-small c =
-    let s = source c in
-    let r = receiver c in
-    let a = c .args in
-    let x : ℕ = (a .s .x - a .r .x) + (a .r .x - a .s .x) in
-    let y : ℕ = (a .s .y - a .r .y) + (a .r .y - a .s .y) in
-    let p : x * x ≤ square coordinate = times x x coordinate coordinate (omega (arith, s .x, r .x)) (omega (arith, s .x, r .x)) in
-    let q : y * y ≤ square coordinate = times y y coordinate coordinate (omega (arith, s .y, r .y)) (omega (arith, s .y, r .y)) in
-    omega arith
+plan-requires c κs = let s = c .before .before in let f = piece s in let r = receiver s in (f .x, f .y, r .x, r .y)
 
 space-requires : tie.Need-space-requires
 space-requires c κs =
-    let start = c .before in
-    (omega (arith, plan-small start, c .plan .ensures), omega (arith, receiver start .low), omega (arith, receiver start .high))
+    let s = c .before .before .before in
+    let r = receiver s in
+    (omega (arith, c .plan .ensures, plan-most (s .args .sent .whole) (s .args .r) (piece s) r), omega (arith, r .low), omega (arith, r .high))
 
--- the squared distance that was worked out is the definition's
-abbrev begun : tie.After-space → tie.Start
-begun c = c .before .before
+apart : (c : tie.After-space) → let a = c .before .before .before .before .args in c .space .result ≡ spaceSquare (a .sent .whole) (a .r)
+apart c =
+    let a = c .before .before .before .before .args in
+    space-is (a .sent .whole) (a .r) _ _ (c .before .plan .ensures) (c .space .ensures)
 
-space : (c : tie.After-space) → c .space .result ≡ spaceSquare (begun c .args .s) (begun c .args .r)
-unfolding spaceSquare
-space c = c .space .ensures ∙ ap (λ (n : ℕ). n + square (begun c .args .r .height - sourceHeight)) (c .before .plan .ensures)
+enum-told : tie.Need-enum-told
+enum-told c = search needs
+
+alone-requires : tie.Need-alone-requires
+alone-requires c κs =
+    let k = c .before .before in
+    let s = k .before .before .before .before in
+    let f = piece s in (
+      (s .pre .0, sounding s, f .some, f .short, s .pre .3),
+      (lengthened s, k .before .plan .ensures, apart k),
+    )
+
+enum-known-course : tie.Need-enum-known-course
+enum-known-course c = search needs
+
+between-requires : tie.Need-between-requires
+unfolding onePiece
+between-requires c κs =
+    let k = c .before .before .before in
+    let s = k .before .before .before .before in
+    let e = c .before .course .given .1 in
+    let f = subst FitCourse e (source s .course) in
+    let w = whole s ∙ ap wholeOf e in (
+      (s .pre .0, s .pre .3, sounding s),
+      ((f .mapped, f .some, f .short, w, lengthened s ∙ ap (λ (p : Piece). lengthTerm (p .length)) w), (k .before .plan .ensures, apart k)),
+    )
 
 returns : tie.Need-returns
 returns c =
-    let p = c .before in
-    let a = begun p .args in
-    sym (pair-near (a .s) (a .r) (omega (arith, space p, c .if1 .taken)))
+    let s = c .before .before .before .before .before .before .before in
+    let e = c .before .enum-told .given .1 in
+    c .alone .ensures ∙ sent-by s (s .args .sent .whole ∷ []) (ap (piecesFor (s .args .r)) e ∙ sym (ap (λ (p : Piece). p ∷ []) (whole s ∙ ap wholeOf e)))
 
 returns-2 : tie.Need-returns-2
 returns-2 c =
-    let p = c .before .before in
-    let a = begun p .args in
-    sym (pair-far (a .s) (a .r) (omega (arith, space p, c .if2 .taken)))
-
-cast-long : tie.Need-cast-long
-cast-long c = search needs
-
-long : (c : tie.Start) → square (c .args .s .length) ≤ square longest
-long c = times (c .args .s .length) (c .args .s .length) longest longest (source c .short) (source c .short)
-
-mul-square : tie.Need-mul-square
-mul-square c = omega (arith, long (c .before .before .before .before .before))
-
-mul-if3 : tie.Need-mul-if3
-mul-if3 c = omega (arith, long (c .before .before .before .before .before))
-
-returns-3 : tie.Need-returns-3
-returns-3 c =
-    let p = c .before .before .before .before in
-    let a = begun p .args in
-    sym (pair-long (a .s) (a .r) (omega (arith, space p, c .before .before .before .if1 .left)) (omega (arith, space p, c .before .before .if2 .left)) (omega (arith, space p, c .if3 .taken)))
-
-add-h : tie.Need-add-h
-add-h c = omega (arith, receiver (c .before .before .before .before .before .before .before) .high)
-
-cast-h : tie.Need-cast-h
-cast-h c = search needs
-
-hear-requires : tie.Need-hear-requires
-hear-requires c κs =
-    let p = c .before .before .before .before .before .before in
-    let start = begun p in
-    let f = start .pre in
-    let near = c .before .before .before .before .before .if1 .left in
-    let far = c .before .before .before .before .if2 .left in
-    let l = small-length (start .args .s .length) (source start .some) (source start .short) in (
-      (f .0, rw (f .2) (moderate (start .args .s) (source start)), omega (arith, near, rise start, p .space .ensures), omega (arith, p .space .ensures), omega (arith, far), omega (arith, receiver start .high)),
-      (rw (f .2) (l .up), rw (f .2) (l .down)),
-    )
-
-returns-4 : tie.Need-returns-4
-returns-4 c =
-    let p = c .before .before .before .before .before .before .before in
-    let start = begun p in
-    let a = start .args in
-    let vs = start .pre .2 in
-    let near = c .before .before .before .before .before .before .if1 .left in
-    let far = c .before .before .before .before .before .if2 .left in
-    let short = c .before .before .before .if3 .left in
-    c .hear .ensures ∙ (λ i. hearOf (vs i .voices) (vs i .length) (p .before .plan .ensures i) (space p i) (rayHeight (a .r)))
-    ∙ sym (pair-within (a .s) (a .r) (omega (arith, space p, near)) (omega (arith, space p, far)) (omega (arith, space p, short)))
+    let s = c .before .before .before .before .before .before .before .before in
+    c .between .ensures ∙ sent-by s _ (ap (piecesFor (s .args .r)) (c .before .before .course .given .1))
 
 pub pair-spec : {M : Type 1} → statement M
-pair-spec = tie.close (tie.spec plan-requires space-requires returns returns-2 cast-long mul-square mul-if3 returns-3 add-h cast-h hear-requires returns-4)
+pair-spec =
+    tie.close
+    (tie.spec
+    plan-requires
+    space-requires
+    enum-told
+    alone-requires
+    enum-known-course
+    between-requires
+    returns
+    returns-2)

@@ -29,7 +29,7 @@ source-by-requires c κs =
 returns : tie.Need-returns
 returns c =
     let z = c .before .before .before in
-    c .source-by .ensures ∙ ap sourceOf (part-all (z .args .at) (now (z .args .v)))
+    c .source-by .ensures ∙ ap (sourceOf (z .args .course)) (part-all (z .args .at) (now (z .args .v)))
 
 pub source-of-spec : {M : Type 1} → statement M
 source-of-spec = tie.close (tie.spec mul-source-by sub-source-by part-source-by-start part-source-by-end source-by-requires returns)

@@ -36,19 +36,19 @@ cast-t19 : tie.Need-cast-t19
 cast-t19 c = search needs
 
 cast-t20 : tie.Need-cast-t20
-cast-t20 c = search needs
+cast-t20 c = omega (arith, c .struct-known8)
 
 cast-t21 : tie.Need-cast-t21
-cast-t21 c = search needs
+cast-t21 c = omega (arith, c .struct-known9)
 
 cast-t22 : tie.Need-cast-t22
 cast-t22 c = omega (arith, c .struct-known10)
 
 cast-t23 : tie.Need-cast-t23
-cast-t23 c = omega (arith, c .struct-known11)
+cast-t23 c = search needs
 
 cast-t24 : tie.Need-cast-t24
-cast-t24 c = omega (arith, c .struct-known12)
+cast-t24 c = search needs
 
 cast-t25 : tie.Need-cast-t25
 cast-t25 c = search needs
@@ -58,15 +58,6 @@ cast-t26 c = search needs
 
 cast-t27 : tie.Need-cast-t27
 cast-t27 c = search needs
-
-cast-t28 : tie.Need-cast-t28
-cast-t28 c = search needs
-
-cast-t29 : tie.Need-cast-t29
-cast-t29 c = search needs
-
-cast-t30 : tie.Need-cast-t30
-cast-t30 c = search needs
 
 returns : tie.Need-returns
 returns c = search needs
@@ -93,7 +84,4 @@ source-values-spec =
     cast-t25
     cast-t26
     cast-t27
-    cast-t28
-    cast-t29
-    cast-t30
     returns)
