@@ -16,11 +16,11 @@ use Rattle.road.specs.declared.Source.{Source}
 use Rattle.road.specs.declared.Verdict.{Verdict}
 use Rattle.road.specs.declared.Verdict.the-variants.{Allowed, Refused}
 use Rattle.road.specs.Fields.{roadTable, trafficTable, valuesBy, bitsBy, slotBitsBy, leastBy, mostBy, numberAt, Fit}
-use Rattle.road.specs.Judge.{outsideBy, unlessOutside, sourceVerdict}
+use Rattle.road.specs.Judge.{outsideBy, unlessOutside, courseVerdict, restVerdict, sourceVerdict}
 use Rattle.road.proofs.Bounds.{times}
-use Rattle.road.proofs.Fit.{past, source-within}
+use Rattle.road.proofs.Fit.{past, fit-course, source-within}
 use Rattle.road.proofs.Rows.{record-fit, fit-wider}
-use Rattle.road.proofs.Judged.{outside, inside, road-first, ByFields, outside-by, source-by}
+use Rattle.road.proofs.Judged.{outside, inside, road-first, ByFields, outside-by, course-by, rest-by}
 use Rattle.daily.specs.declared.Daily.{Daily}
 use Rattle.daily.specs.Daily.{tableTwo, countsOf, counted, lastClass, dailyTable, dailyBits, dailyFields, dailyOf, Figured, Promises, dailyVerdict}
 
@@ -111,9 +111,9 @@ inside-figured d h =
 -- ---- what is promised
 
 road-named : (d : Daily) (s : Source) → outsideBy roadTable s < length roadTable
-    → dailyVerdict d s ≡ Refused (Field (numberAt roadTable (outsideBy roadTable s)))
+    → dailyVerdict d s ≡ courseVerdict (s .course) (Refused (Field (numberAt roadTable (outsideBy roadTable s))))
 unfolding dailyVerdict
-road-named d s h = sym (outside roadTable s (unlessOutside dailyTable d (sourceVerdict (counted d s))) (outsideBy roadTable s) refl h)
+road-named d s h = ap (courseVerdict (s .course)) (sym (outside roadTable s (unlessOutside dailyTable d (restVerdict (counted d s))) (outsideBy roadTable s) refl h))
 
 figured-inside : (d : Daily) → Figured d → length dailyTable ≤ outsideBy dailyTable d
 figured-inside d f =
@@ -125,10 +125,11 @@ figured-inside d f =
     b (suc (suc i)) l = absurd (omega arith)
 
 pub same-verdict : (d : Daily) (s : Source) → Figured d → dailyVerdict d s ≡ sourceVerdict (counted d s)
-unfolding dailyVerdict
+unfolding dailyVerdict sourceVerdict
 same-verdict d s f =
-    ap (unlessOutside roadTable s) (sym (inside dailyTable d (sourceVerdict (counted d s)) (outsideBy dailyTable d) refl (figured-inside d f)))
-    ∙ road-first (counted d s)
+    ap (courseVerdict (s .course))
+    (ap (unlessOutside roadTable s) (sym (inside dailyTable d (restVerdict (counted d s)) (outsideBy dailyTable d) refl (figured-inside d f)))
+    ∙ road-first (counted d s))
 
 pub counts-allowed : (d : Daily) (s : Source) → Figured d → outsideBy trafficTable (counted d s) ≡ length trafficTable
 counts-allowed d s f =
@@ -144,8 +145,9 @@ pub daily-within : (d : Daily) (s : Source) → dailyVerdict d s ≡ Allowed
     → Within dailyBits (dailyFields d s)
 unfolding dailyVerdict
 daily-within d s e =
-    let v : Verdict = sourceVerdict (counted d s) in
-    let b = past dailyTable d v (past roadTable s (unlessOutside dailyTable d v) e .1) in
+    let v : Verdict = restVerdict (counted d s) in
+    let a = fit-course (s .course) (unlessOutside roadTable s (unlessOutside dailyTable d v)) e .1 in
+    let b = past dailyTable d v (past roadTable s (unlessOutside dailyTable d v) a .1) in
     let f = inside-figured d (ltb-false (outsideBy dailyTable d) (length dailyTable) (b .0)) in
     let w = within-front (bitsBy roadTable) (bitsBy trafficTable) (valuesBy roadTable s ++ countsOf d) (source-within (counted d s) (b .1)) in
     within-append (bitsBy roadTable) (valuesBy roadTable s) (bitsBy dailyTable) (valuesBy dailyTable d) w (omega (arith, f .0), (omega (arith, f .1 .1), tt))
@@ -153,4 +155,4 @@ daily-within d s e =
 -- it is refused 5, 6 or 7 and no other
 pub daily-by : (d : Daily) (s : Source) → ByFields (dailyVerdict d s)
 unfolding dailyVerdict
-daily-by d s = outside-by roadTable s _ (outside-by dailyTable d _ (source-by (counted d s)))
+daily-by d s = course-by (s .course) _ (outside-by roadTable s _ (outside-by dailyTable d _ (rest-by (counted d s))))

@@ -9,7 +9,7 @@ use Rattle.road.specs.declared.Source.{Source}
 use Rattle.road.specs.declared.Verdict.{Verdict}
 use Rattle.road.specs.declared.Verdict.the-variants.{Refused}
 use Rattle.road.specs.Fields.{Row, row, roadTable, trafficTable, sourceOf, valuesBy, bitsBy, numberAt}
-use Rattle.road.specs.Judge.{outsideBy, unlessOutside, sourceVerdict}
+use Rattle.road.specs.Judge.{outsideBy, unlessOutside, courseVerdict, restVerdict, sourceVerdict}
 use Rattle.daily.specs.declared.Daily.{Daily}
 
 -- ---- table 2
@@ -40,7 +40,7 @@ countsOf d = countsBy (d .dtv) (getD tableTwo (d .class) [])
 
 -- the source that a road with its daily figure stands for; what traffic s has is not looked at
 abbrev pub counted : Daily → Source → Source
-counted d s = sourceOf (valuesBy roadTable s ++ countsOf d)
+counted d s = sourceOf (s .course) (valuesBy roadTable s ++ countsOf d)
 
 -- ---- the two fields, which follow those of the road
 
@@ -69,10 +69,11 @@ dailyFields d s = valuesBy roadTable s ++ valuesBy dailyTable d
 abbrev pub dailyOf : List ℕ → Daily
 dailyOf v = record { class = getD v (length roadTable) 0; dtv = getD v (suc (length roadTable)) 0 }
 
--- ---- the verdict: the fields of the road, then the class and the daily figure, then what is judged of the source that they stand for
+-- ---- the verdict: the course and the fields of the road, then the class and the daily figure, then what is judged of the source that
+-- they stand for
 
 unfoldable pub dailyVerdict : Daily → Source → Verdict
-dailyVerdict d s = unlessOutside roadTable s (unlessOutside dailyTable d (sourceVerdict (counted d s)))
+dailyVerdict d s = courseVerdict (s .course) (unlessOutside roadTable s (unlessOutside dailyTable d (restVerdict (counted d s))))
 
 -- ---- what is promised
 
@@ -81,9 +82,9 @@ abbrev pub Figured : Daily → Type 0
 Figured d = (d .class ≤ lastClass) × ((1 ≤ d .dtv) × (d .dtv ≤ busiest))
 
 pub record Promises : Type 0 where
-  -- a field of the road that is not allowed is named, whatever class and vehicles a day are
+  -- on a course that is allowed, a field of the road that is not is named, whatever class and vehicles a day are
   pub road-named : (d : Daily) (s : Source) → outsideBy roadTable s < length roadTable
-      → dailyVerdict d s ≡ Refused (Field (numberAt roadTable (outsideBy roadTable s)))
+      → dailyVerdict d s ≡ courseVerdict (s .course) (Refused (Field (numberAt roadTable (outsideBy roadTable s))))
   -- where these two are allowed, the road is judged as the source that they stand for
   pub same-verdict : (d : Daily) (s : Source) → Figured d → dailyVerdict d s ≡ sourceVerdict (counted d s)
   -- whose counts are always allowed: refusal 5 names the class by 14 and the vehicles a day by 15, and no count

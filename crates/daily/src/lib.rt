@@ -1,6 +1,7 @@
 // Traffic by the daily figure: the counts that a class of road and its vehicles a day stand for (VBUS table 2), and which are allowed.
 // The table and the fields are those of specs/Daily.antt.
 use answer::Refusal;
+use course::Course;
 use road::Source;
 use road::Traffic;
 use road::Verdict;
@@ -13,7 +14,7 @@ ghost use lib.ListN.{length, getD, drop};
 ghost use Rattle.level.specs.Table.{table};
 ghost use Rattle.layout.specs.Layout.{Within};
 ghost use Rattle.road.specs.Fields.{trafficTable, valuesBy, sourceOf, trafficOf};
-ghost use Rattle.road.specs.Judge.{unlessOutside, sourceVerdict};
+ghost use Rattle.road.specs.Judge.{unlessOutside, restVerdict};
 ghost use Rattle.daily.specs.Daily as spec;
 
 // A class of road, the row of table 2 from 0 on, and how many vehicles the road has a day (DTV).
@@ -96,12 +97,12 @@ pub fn daily_of(v: &[u64]) -> Daily
     Daily { class, dtv }
 }
 
-// The source that they stand for, from the same values.
-pub fn source_of(v: &[u64]) -> Source
+// The source on a course that they stand for, from the same values.
+pub fn source_of(course: Course, v: &[u64]) -> Source
     requires { ⌜ Within spec.dailyBits (now v) ⌝ }
-    ensures { λ r. ⌜ r ≡ spec.counted (spec.dailyOf (now (v .entry))) (sourceOf (now (v .entry))) ⌝ }
+    ensures { λ r. ⌜ r ≡ spec.counted (spec.dailyOf (now (v .entry))) (sourceOf course (now (v .entry))) ⌝ }
 {
-    counted(daily_of(v), fields::road_of(v))
+    counted(daily_of(v), fields::road_of(course, v))
 }
 
 // The values of a road and of these. What follows them says nothing.
@@ -114,10 +115,10 @@ pub fn values(d: Daily, s: Source) -> [u64; fields::SOURCE_ROWS]
     values
 }
 
-// Whether class and vehicles a day, and then the source that they stand for, are allowed.
+// Whether class and vehicles a day, and then the source that they stand for, but for its course, are allowed.
 fn judge_daily(steps: &[u32; 1000], d: Daily, s: Source) -> Verdict
     requires { ⌜ now steps ≡ table ⌝ }
-    ensures { λ r. ⌜ r ≡ unlessOutside spec.dailyTable d (sourceVerdict (spec.counted d s)) ⌝ }
+    ensures { λ r. ⌜ r ≡ unlessOutside spec.dailyTable d (restVerdict (spec.counted d s)) ⌝ }
 {
     let values = [d.class as u64, d.dtv as u64];
     let least = LEAST;
@@ -127,7 +128,7 @@ fn judge_daily(steps: &[u32; 1000], d: Daily, s: Source) -> Verdict
         let number = FIRST_NUMBER + at as u16;
         return Verdict::Refused(Refusal::Field(number));
     }
-    judge::judge_source(steps, counted(d, s))
+    judge::judge_rest(steps, counted(d, s))
 }
 
 // Whether a road with its daily figure is allowed.
@@ -135,5 +136,6 @@ pub fn judge(steps: &[u32; 1000], d: Daily, s: Source) -> Verdict
     requires { ⌜ now steps ≡ table ⌝ }
     ensures { λ r. ⌜ r ≡ spec.dailyVerdict d s ⌝ }
 {
-    judge::judge_road(s, judge_daily(steps, d, s))
+    let course = s.course;
+    judge::judge_course(course, judge::judge_road(s, judge_daily(steps, d, s)))
 }

@@ -130,3 +130,15 @@ pub fn first_outside(los: &[u64], his: &[u64], vs: &[u64]) -> usize
     }
     i
 }
+
+// Writes values among others, from index at on.
+pub fn lay(values: &[u64], vs: &mut [u64], at: usize)
+    requires { ⌜ at + length (now values) ≤ length (now vs) ⌝ }
+    ensures { λ _. ⌜ now (vs .exit) ≡ over at (now (values .entry)) (now (vs .entry)) ⌝ }
+{
+    let mut i = 0;
+    while i < values.len() {
+        vs[at + i] = values[i];
+        i += 1;
+    }
+}

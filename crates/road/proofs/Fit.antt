@@ -77,7 +77,7 @@ ends-mapped e n =
     λ i h. inside-at (leastBy endsTable e) (mostBy endsTable e) (valuesBy endsTable e) i (omega arith) .1 in
     record { x1 = omega (arith, b 0 (omega arith)); y1 = omega (arith, b 1 (omega arith)); x2 = omega (arith, b 2 (omega arith)); y2 = omega (arith, b 3 (omega arith)) }
 
-fit-course : (c : Course) (v : Verdict) → courseVerdict c v ≡ Allowed → FitCourse c × (v ≡ Allowed)
+pub fit-course : (c : Course) (v : Verdict) → courseVerdict c v ≡ Allowed → FitCourse c × (v ≡ Allowed)
 fit-course (Uncut p) v e =
     let b = bounded pieceTable p v e in
     (record { x = b 0 (omega arith) .1; y = b 1 (omega arith) .1; some = b 2 (omega arith) .0; short = b 2 (omega arith) .1 }, past pieceTable p v e .1)

@@ -92,11 +92,11 @@ either-by false v w m n = n
 pub outside-by : {A : Type 0} (t : List (Row A)) (a : A) (v : Verdict) → ByFields v → ByFields (unlessOutside t a v)
 outside-by t a v n = either-by (ltb (outsideBy t a) (length t)) (Refused (Field (numberAt t (outsideBy t a)))) v (omega arith, omega arith) n
 
-course-by : (c : Course) (v : Verdict) → ByFields v → ByFields (courseVerdict c v)
+pub course-by : (c : Course) (v : Verdict) → ByFields v → ByFields (courseVerdict c v)
 course-by (course.Uncut p) v n = outside-by pieceTable p v n
 course-by (course.Between e) v n = outside-by endsTable e (unlessOutside lengthTable e v) (outside-by lengthTable e v n)
 
-rest-by : (s : Source) → ByFields (restVerdict s)
+pub rest-by : (s : Source) → ByFields (restVerdict s)
 unfolding restVerdict
 rest-by s =
     outside-by sourceTable s _

@@ -73,6 +73,12 @@ judge-source-settled l a = settled _ _
 judge-piece-settled : SettlesResult proofs.judge.judge_piece.Reads.Post
 judge-piece-settled l a = settled _ _
 
+judge-course-settled : SettlesResult proofs.judge.judge_course.Reads.Post
+judge-course-settled l a = settled _ _
+
+judge-rest-settled : SettlesResult proofs.judge.judge_rest.Reads.Post
+judge-rest-settled l a = settled _ _
+
 judge-road-settled : SettlesResult proofs.judge.judge_road.Reads.Post
 judge-road-settled l a = settled _ _
 
@@ -118,6 +124,9 @@ put-number-settled l a = settled _ _
 
 put-fields-settled : Settles (λ l a r e. now (e .0)) layout.put_fields.Reads.Post
 put-fields-settled l a = settled _ _
+
+lay-settled : Settles (λ l a r e. now (e .1 .0)) layout.lay.Reads.Post
+lay-settled l a = settled _ _
 
 first-outside-settled : SettlesResult layout.first_outside.Reads.Post
 first-outside-settled l a = settled _ _

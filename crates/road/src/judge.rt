@@ -115,7 +115,7 @@ fn judge_ends(e: Ends, other: Verdict) -> Verdict
 }
 
 // Whether a course and then what else is judged are allowed.
-fn judge_course(course: Course, other: Verdict) -> Verdict
+pub fn judge_course(course: Course, other: Verdict) -> Verdict
     ensures { λ v. ⌜ v ≡ courseVerdict course other ⌝ }
 {
     match course {
@@ -125,7 +125,7 @@ fn judge_course(course: Course, other: Verdict) -> Verdict
 }
 
 // Whether the fields of a source after its course are allowed.
-fn judge_rest(steps: &[u32; 1000], s: Source) -> Verdict
+pub fn judge_rest(steps: &[u32; 1000], s: Source) -> Verdict
     requires { ⌜ now steps ≡ table ⌝ }
     ensures { λ r. ⌜ r ≡ restVerdict s ⌝ }
 {

@@ -89,15 +89,15 @@ lent-back ws vs s at h =
     (ap₂ (λ (x y : List ℕ). (packed ws vs ++ drop (size ws) x) ++ y) (take-all n r l) (drop-of-length-le r {i = n} l)
     ∙ append-nil (packed ws vs ++ drop (size ws) r) ∙ ap (λ (t : List ℕ). packed ws vs ++ t) e)
 
--- what the laws of slots ask of a party: its layout is one that the code can handle; its fields come back, and so does one that may stand
+-- what the laws of slots ask of a party: its layout is one that the code can handle; its fields come back if they are okay, and so does one that may stand
 -- in the book, which fits its layout
 pub record Lawful {A : Type 0} (p : Party A) (Stands : A → Type 0) : Type 0 where
   pub handled : sized (partyLayout p) ≡ true
-  pub refilled : (m : ℕ) (fs : List ℕ) → length fs ≡ length (p .widths) → p .to (p .from (m ∷ fs)) ≡ fs
+  pub refilled : (m : ℕ) (fs : List ℕ) → length fs ≡ length (p .widths) → p .ok (m ∷ fs) ≡ true → p .to (p .from (m ∷ fs)) ≡ fs
   pub reread : (a : A) → Stands a → p .from (1 ∷ p .to a) ≡ a
   pub fits : (a : A) → Stands a → Within (partyLayout p) (1 ∷ p .to a)
-  pub okay : (a : A) → Stands a → p .ok a ≡ true
-  pub stands : (vs : List ℕ) → p .ok (p .from vs) ≡ true → Stands (p .from vs)
+  pub okay : (a : A) → Stands a → p .ok (1 ∷ p .to a) ≡ true
+  pub stands : (vs : List ℕ) → p .ok vs ≡ true → Stands (p .from vs)
 
 -- ---- one slot
 
@@ -105,22 +105,22 @@ pub record Lawful {A : Type 0} (p : Party A) (Stands : A → Type 0) : Type 0 wh
 abbrev pub Whole : {A : Type 0} → Party A → List ℕ → Type 0
 Whole p vs =
     ((allZero vs ≡ true) × (slotBy p vs ≡ empty))
-    ⊎ ((getD vs 0 0 ≡ 1) × (p .ok (p .from vs) ≡ true) × (slotBy p vs ≡ used (p .from vs)))
+    ⊎ ((getD vs 0 0 ≡ 1) × (p .ok vs ≡ true) × (slotBy p vs ≡ used (p .from vs)))
 
 module _ {A : Type 0} (p : Party A) where
   pub whole : (vs : List ℕ) → isTorn (slotBy p vs) ≡ false → Whole p vs
   unfolding slotBy
   whole vs h = first (allZero vs) refl
     where
-      second : allZero vs ≡ false → (b : Bool) → (eqb (getD vs 0 0) 1 && p .ok (p .from vs)) ≡ b → Whole p vs
+      second : allZero vs ≡ false → (b : Bool) → (eqb (getD vs 0 0) 1 && p .ok vs) ≡ b → Whole p vs
       second e true f =
-          let t = both (eqb (getD vs 0 0) 1) (p .ok (p .from vs)) f in
+          let t = both (eqb (getD vs 0 0) 1) (p .ok vs) f in
           inr (eqb-true (getD vs 0 0) 1 (t .0), t .1, simp (e, f))
       second e false f = absurd (true≢false (simp (e, f) at h))
 
       first : (b : Bool) → allZero vs ≡ b → Whole p vs
       first true e = inl (e, simp e)
-      first false e = second e (eqb (getD vs 0 0) 1 && p .ok (p .from vs)) refl
+      first false e = second e (eqb (getD vs 0 0) 1 && p .ok vs) refl
 
   unused : (vs : List ℕ) → allZero vs ≡ true → slotBy p vs ≡ empty
   unfolding slotBy
@@ -135,9 +135,9 @@ module _ {A : Type 0} (p : Party A) where
       turned true = refl
       turned false = refl
 
-  pub torn-marked : (vs : List ℕ) → getD vs 0 0 ≡ 1 → isTorn (slotBy p vs) ≡ not (p .ok (p .from vs))
+  pub torn-marked : (vs : List ℕ) → getD vs 0 0 ≡ 1 → isTorn (slotBy p vs) ≡ not (p .ok vs)
   unfolding slotBy
-  torn-marked vs f = simp (mark-shows vs f, eq-eqb (getD vs 0 0) 1 f) (turned (p .ok (p .from vs)))
+  torn-marked vs f = simp (mark-shows vs f, eq-eqb (getD vs 0 0) 1 f) (turned (p .ok vs))
     where
       turned : (b : Bool) → isTorn (cond b (used (p .from vs)) torn) ≡ not b
       turned true = refl
@@ -159,7 +159,7 @@ module _ {A : Type 0} (p : Party A) where
   marked vs h =
       ⊎-elim
       (λ (w : (allZero vs ≡ true) × (slotBy p vs ≡ empty)). ap entryOf (w .1) ∙ unmarked vs (w .0))
-      (λ (w : (getD vs 0 0 ≡ 1) × (p .ok (p .from vs) ≡ true) × (slotBy p vs ≡ used (p .from vs))).
+      (λ (w : (getD vs 0 0 ≡ 1) × (p .ok vs ≡ true) × (slotBy p vs ≡ used (p .from vs))).
       ap entryOf (w .2) ∙ sym (ap (λ (m : ℕ). cond (eqb m 1) (some (p .from vs)) none) (w .0)))
       (whole vs h)
     where
@@ -172,9 +172,9 @@ module _ {A : Type 0} (p : Party A) where
 
   module _ (Stands : A → Type 0) (law : Lawful p Stands) where
     -- numbers with the mark 1 are those of what they describe
-    again : (vs : List ℕ) → length vs ≡ suc (length (p .widths)) → getD vs 0 0 ≡ 1 → 1 ∷ p .to (p .from vs) ≡ vs
-    again [] l e = absurd (omega arith)
-    again (m ∷ fs) l e = ap₂ (λ (x : ℕ) (t : List ℕ). x ∷ t) (sym e) (law .refilled m fs (omega arith))
+    again : (vs : List ℕ) → length vs ≡ suc (length (p .widths)) → getD vs 0 0 ≡ 1 → p .ok vs ≡ true → 1 ∷ p .to (p .from vs) ≡ vs
+    again [] l e o = absurd (omega arith)
+    again (m ∷ fs) l e o = ap₂ (λ (x : ℕ) (t : List ℕ). x ∷ t) (sym e) (law .refilled m fs (omega arith) o)
 
     -- what is read is written again
     pub rewritten : (s : List ℕ) → length s ≡ slotSize p → Bytes s → isTorn (slotOf p s) ≡ false → slotBytes p (entryOf (slotOf p s)) ≡ s
@@ -188,8 +188,8 @@ module _ {A : Type 0} (p : Party A) where
         (λ (w : (allZero vs ≡ true) × (slotBy p vs ≡ empty)).
         ap (λ (t : Slot A). slotBytes p (entryOf t)) (w .1) ∙ sym (packed-zeros ws)
         ∙ ap (packed ws) (ap (λ (k : ℕ). replicate k 0) (sym n) ∙ sym (all-zero vs (w .0))) ∙ e)
-        (λ (w : (getD vs 0 0 ≡ 1) × (p .ok (p .from vs) ≡ true) × (slotBy p vs ≡ used (p .from vs))).
-        ap (λ (t : Slot A). slotBytes p (entryOf t)) (w .2) ∙ ap (packed ws) (again vs n (w .0)) ∙ e)
+        (λ (w : (getD vs 0 0 ≡ 1) × (p .ok vs ≡ true) × (slotBy p vs ≡ used (p .from vs))).
+        ap (λ (t : Slot A). slotBytes p (entryOf t)) (w .2) ∙ ap (packed ws) (again vs n (w .0) (w .1)) ∙ e)
         (whole vs h)
 
     -- what is written is read again
@@ -204,15 +204,15 @@ module _ {A : Type 0} (p : Party A) where
         let ws = partyLayout p in
         let vs : List ℕ = 1 ∷ p .to a in
         ap (slotBy p) (ap (fields ws) (sym (append-nil (packed ws vs))) ∙ fields-packed ws vs [] (law .handled) (law .fits a h))
-        ∙ ap (λ (x : A). cond (p .ok x) (used x) torn) (law .reread a h)
-        ∙ ap (λ (b : Bool). cond b (used a) torn) (law .okay a h)
+        ∙ ap (λ (b : Bool). cond b (used (p .from vs)) torn) (law .okay a h)
+        ∙ ap (λ (x : A). used x) (law .reread a h)
 
     -- who is in a slot stands
     pub entry-stands : (vs : List ℕ) (a : A) → isTorn (slotBy p vs) ≡ false → entryOf (slotBy p vs) ≡ some a → Stands a
     entry-stands vs a h e =
         ⊎-elim
         (λ (w : (allZero vs ≡ true) × (slotBy p vs ≡ empty)). let z : none ≡ some a = sym (ap entryOf (w .1)) ∙ e in absurd (let y : _≡_ {A = ℕ} 0 1 = cc in omega arith))
-        (λ (w : (getD vs 0 0 ≡ 1) × (p .ok (p .from vs) ≡ true) × (slotBy p vs ≡ used (p .from vs))).
+        (λ (w : (getD vs 0 0 ≡ 1) × (p .ok vs ≡ true) × (slotBy p vs ≡ used (p .from vs))).
         let z : some (p .from vs) ≡ some a = sym (ap entryOf (w .2)) ∙ e in
         let y : p .from vs ≡ a = cc in
         subst Stands y (law .stands vs (w .1)))

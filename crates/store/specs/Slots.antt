@@ -9,13 +9,13 @@ use lib.Dec.{eqb}
 use Rattle.layout.specs.Layout.{size, fields, packed}
 
 -- what stands in slots: the widths in bits of its fields, which follow the use mark; how many slots there are; what the numbers of a slot,
--- the mark first, describe; its fields; and whether it may be in the book
+-- the mark first, describe; its fields; and whether numbers are those of one that may be in the book
 pub record Party (A : Type 0) : Type 0 where
   pub widths : List ℕ
   pub count : ℕ
   pub from : List ℕ → A
   pub to : A → List ℕ
-  pub ok : A → Bool
+  pub ok : List ℕ → Bool
 
 -- a slot as it is found
 pub data Slot (A : Type 0) : Type 0 where
@@ -41,7 +41,7 @@ module _ {A : Type 0} where
   -- all zero: not in use. Mark 1 and what may be in the book: in use. The rest is damage: a mark neither 0 nor 1; an unused slot not all
   -- zero; a used slot with what may not be in the book
   unfoldable pub slotBy : Party A → List ℕ → Slot A
-  slotBy p vs = cond (allZero vs) empty (cond (eqb (getD vs 0 0) 1 && p .ok (p .from vs)) (used (p .from vs)) torn)
+  slotBy p vs = cond (allZero vs) empty (cond (eqb (getD vs 0 0) 1 && p .ok vs) (used (p .from vs)) torn)
 
   -- the slot that stands at the front of bytes
   unfoldable pub slotOf : Party A → List ℕ → Slot A

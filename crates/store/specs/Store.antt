@@ -7,10 +7,12 @@ use mathlib.Core.Option.{Option, none, some}
 use lib.ListN.{length, getD, take, drop, replicate}
 use lib.Dec.{eqb}
 use Rattle.layout.specs.Layout.{fields}
+use Rattle.course.specs.declared.Course.{Course}
+use Rattle.course.specs.declared.Course.the-variants.{Uncut, Between}
 use Rattle.road.specs.declared.Source.{Source}
 use Rattle.road.specs.declared.Verdict.{Verdict}
 use Rattle.road.specs.declared.Verdict.the-variants.{Allowed, Refused}
-use Rattle.road.specs.Fields.{sourceTable, receiverTable, sourceOf, receiverOf, valuesBy, slotBitsBy}
+use Rattle.road.specs.Fields.{pieceTable, endsTable, sourceTable, receiverTable, pieceOf, endsOf, sourceOf, receiverOf, valuesBy, slotBitsBy}
 use Rattle.road.specs.Judge.{sourceVerdict, receiverVerdict}
 use Rattle.store.specs.declared.Account.{Account}
 use Rattle.store.specs.declared.Held.{Held}
@@ -48,15 +50,34 @@ abbrev pub isAllowed : Verdict → Bool
 isAllowed Allowed = true
 isAllowed (Refused why) = false
 
--- a used source breaks none of 5, 6 and 7
+-- a course is held as its form, of a byte, and four numbers: 0 with the middle, the length and a 0, or 1 with both ends
+abbrev pub courseNumbers : Course → List ℕ
+courseNumbers (Uncut p) = 0 ∷ (valuesBy pieceTable p ++ (0 ∷ []))
+courseNumbers (Between e) = 1 ∷ valuesBy endsTable e
+
+abbrev pub courseBits : List ℕ
+courseBits = 8 ∷ slotBitsBy endsTable
+
+-- which numbers are those of a course, and of which
+abbrev pub isCourse : List ℕ → Bool
+isCourse v = eqb (getD v 0 0) 1 || (eqb (getD v 0 0) 0 && eqb (getD v 4 0) 0)
+
+abbrev pub courseFrom : List ℕ → Course
+courseFrom v = cond (eqb (getD v 0 0) 1) (Between (endsOf (drop 1 v))) (Uncut (pieceOf (drop 1 v)))
+
+-- the fields of a source follow its course
+abbrev pub sourceFrom : List ℕ → Source
+sourceFrom v = sourceOf (courseFrom (drop 1 v)) (drop (1 + length courseBits) v)
+
+-- a used source has a course, and breaks none of 5, 6 and 7
 abbrev pub sourceParty : Party Source
 sourceParty =
     record {
-      widths = slotBitsBy sourceTable;
+      widths = courseBits ++ slotBitsBy sourceTable;
       count = sourceSlots;
-      from = λ v. sourceOf (drop 1 v);
-      to = valuesBy sourceTable;
-      ok = λ s. isAllowed (sourceVerdict s);
+      from = sourceFrom;
+      to = λ s. courseNumbers (s .course) ++ valuesBy sourceTable s;
+      ok = λ v. isCourse (drop 1 v) && isAllowed (sourceVerdict (sourceFrom v));
     }
 
 -- the account whose sums stand from place k on
@@ -78,7 +99,7 @@ heldParty =
       count = receiverSlots;
       from = heldFrom;
       to = heldFields;
-      ok = λ h. isAllowed (receiverVerdict (h .who)) && sound (h .sums);
+      ok = λ v. isAllowed (receiverVerdict (heldFrom v .who)) && sound (heldFrom v .sums);
     }
 
 -- ---- sizes in bytes
@@ -105,8 +126,8 @@ pub record Book : Type 0 where
 abbrev pub book : List (Option Source) → List (Option Held) → Book
 book ss rs = record { sources = ss; receivers = rs }
 
--- METHOD 9, 'damaged': wrong length; a use mark neither yes nor no; an unused slot not all zero; a used slot breaking
--- 5, 6 or 7; a sum above 512·10^15
+-- METHOD 9, 'damaged': wrong length; a use mark neither yes nor no; an unused slot not all zero; a used slot without a course or
+-- breaking 5, 6 or 7; a sum above 512·10^15
 unfoldable pub damaged : List ℕ → Bool
 damaged s =
     not (eqb (length s) storeLength) || (anyTorn (found sourceParty s) || anyTorn (found heldParty (drop split s)))

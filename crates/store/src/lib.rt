@@ -23,7 +23,7 @@ pub const SOURCES: usize = 512;
 pub const RECEIVERS: usize = 64;
 
 // The bytes of a slot: its mark's, those of the fields in road's tables, and a receiver's sums.
-pub const SOURCE_SIZE: usize = 36;
+pub const SOURCE_SIZE: usize = 40;
 
 pub const RECEIVER_SIZE: usize = 33;
 

@@ -31,11 +31,7 @@ pub(crate) fn mark(values: &[u64], vs: &mut [u64])
     ensures { λ _. ⌜ now (vs .exit) ≡ over 0 (1 ∷ now (values .entry)) (now (vs .entry)) ⌝ }
 {
     vs[0] = 1;
-    let mut i = 0;
-    while i < values.len() {
-        vs[i + 1] = values[i];
-        i += 1;
-    }
+    layout::lay(values, vs, 1);
 }
 
 // Whether all numbers are 0.

@@ -58,7 +58,7 @@ returns c =
     let day = evening .before in
     let a = day .before .before .args in
     (λ i. with (a .s) (day .period .ensures i ∷ evening .period2 .ensures i ∷ night .period3 .ensures i ∷ []))
-    ∙ ap (λ (r : List ℕ). sourceOf (valuesBy roadTable (a .s) ++ countsBy (a .d .dtv) r)) (day .before .row-of .ensures)
+    ∙ ap (λ (r : List ℕ). sourceOf (a .s .course) (valuesBy roadTable (a .s) ++ countsBy (a .d .dtv) r)) (day .before .row-of .ensures)
 
 pub counted-spec : {M : Type 1} → statement M
 counted-spec =

@@ -5,7 +5,7 @@ use mathlib.Core.Path.{ap, _∙_}
 use native.Mathlib.Omega.{arith}
 use Rattle.answer.specs.declared.Refusal.the-variants.{Field}
 use Rattle.road.specs.declared.Verdict.the-variants.{Refused}
-use Rattle.road.specs.Judge.{sourceVerdict}
+use Rattle.road.specs.Judge.{restVerdict}
 use Rattle.road.proofs.Judged.{outside, inside}
 use Rattle.daily.specs.Daily.{counted, dailyTable}
 use Rattle.daily.proofs.Laws.{number-at, inside-figured}
@@ -44,7 +44,7 @@ returns c =
     let at = f .first-outside .result in
     let h = c .if1 .taken in
     ap (λ (n : ℕ). Refused (Field n)) (number-at at h)
-    ∙ outside dailyTable (a .d) (sourceVerdict (counted (a .d) (a .s))) at (f .first-outside .ensures) h
+    ∙ outside dailyTable (a .d) (restVerdict (counted (a .d) (a .s))) at (f .first-outside .ensures) h
 
 counted-requires : tie.Need-counted-requires
 counted-requires c κs =
@@ -53,16 +53,16 @@ counted-requires c κs =
     let g = inside-figured d (omega (arith, f .first-outside .ensures, c .if1 .left)) in
     (g .0, omega (arith, g .1 .1))
 
-judge-source-requires : tie.Need-judge-source-requires
-judge-source-requires c κs = search needs
+judge-rest-requires : tie.Need-judge-rest-requires
+judge-rest-requires c κs = search needs
 
 returns-2 : tie.Need-returns-2
 returns-2 c =
     let f = c .before .before .before in
     let a = f .before .before .before .before .before .before .args in
-    c .judge-source .ensures
-    ∙ ap sourceVerdict (c .before .counted .ensures)
-    ∙ inside dailyTable (a .d) (sourceVerdict (counted (a .d) (a .s))) (f .first-outside .result) (f .first-outside .ensures) (c .before .before .if1 .left)
+    c .judge-rest .ensures
+    ∙ ap restVerdict (c .before .counted .ensures)
+    ∙ inside dailyTable (a .d) (restVerdict (counted (a .d) (a .s))) (f .first-outside .result) (f .first-outside .ensures) (c .before .before .if1 .left)
 
 pub judge-daily-spec : {M : Type 1} → statement M
 judge-daily-spec =
@@ -78,5 +78,5 @@ judge-daily-spec =
     add-number
     returns
     counted-requires
-    judge-source-requires
+    judge-rest-requires
     returns-2)

@@ -19,7 +19,7 @@ use Rattle.store.proofs.receivers.torn.Tie as tie
 judged : (v : List ℕ) (h : Held) (w : Verdict) → getD v 0 0 ≡ 1 → h ≡ heldFrom v → receiverVerdict (h .who) ≡ w
     → not (isAllowed w && sound (h .sums)) ≡ isTorn (slotBy heldParty v)
 judged v h w m f g =
-    ap (λ (x : Verdict). not (isAllowed x && sound (h .sums))) (sym g) ∙ ap (λ (x : Held). not (heldParty .ok x)) f ∙ sym (torn-marked heldParty v m)
+    ap (λ (x : Verdict). not (isAllowed x && sound (h .sums))) (sym g) ∙ ap (λ (x : Held). not (isAllowed (receiverVerdict (x .who)) && sound (x .sums))) f ∙ sym (torn-marked heldParty v m)
 
 element-copy-out-if1 : tie.Need-element-copy-out-if1
 element-copy-out-if1 c = search needs
