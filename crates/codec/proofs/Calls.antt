@@ -1,22 +1,25 @@
 -- The laws of each kind: the fields of a call are those that its kind reads back as the call, and fields that are read are those of their call.
 -- A new kind is a new clause of each law. Assumes nothing.
-use Prim.Native.Nat.{ℕ, zero, suc, _+_, _<_}
+use Prim.Native.Nat.{ℕ, zero, suc, _+_, _≤_, _<_}
 use mathlib.Core.Path.{_≡_, refl, sym, ap, _∙_, subst⁻¹}
 use mathlib.Core.List.{List, [], _∷_, _++_}
 use native.Mathlib.Omega.{arith}
 use lib.Dec.{lit<}
-use lib.ListN.{length, drop, length-drop}
-use lib.Seq.{getD-drop, drop-cons}
+use lib.ListN.{length, take, drop, length-drop, take-append-drop}
+use lib.Seq.{getD-drop, drop-cons, length-take-le}
 use Rattle.layout.specs.Layout.{size, packed, Within}
 use Rattle.layout.proofs.Packing.{within-append}
+use Rattle.course.specs.declared.Course.{Course}
+use Rattle.course.specs.declared.Course.the-variants.{Uncut, Between}
 use Rattle.road.specs.declared.Source.{Source}
+use Rattle.road.specs.declared.Verdict.{Verdict}
 use Rattle.road.specs.declared.Verdict.the-variants.{Allowed}
-use Rattle.road.proofs.Fit.{source-within, receiver-within}
+use Rattle.road.proofs.Fit.{past, fit-course, rest-allowed, piece-within, ends-within, source-within, receiver-within}
 use Rattle.road.proofs.Judged.{slot-allowed}
 use Rattle.road.proofs.Rows as rows
-use Rattle.road.proofs.Rows.{upto, source-values-again}
-use Rattle.road.specs.Fields.{receiverTable, bitsBy, sourceTable}
-use Rattle.road.specs.Judge.{receiverFields, sourceVerdict, receiverVerdict}
+use Rattle.road.proofs.Rows.{upto, all-of, upto-take, source-values-again}
+use Rattle.road.specs.Fields.{pieceTable, endsTable, lengthTable, receiverTable, bitsBy, valuesBy, sourceTable, pieceOf, endsOf, sourceOf}
+use Rattle.road.specs.Judge.{receiverFields, sourceFields, unlessOutside, courseVerdict, restVerdict, sourceVerdict, receiverVerdict}
 use Rattle.daily.specs.Daily.{dailyBits, dailyFields, dailyVerdict}
 use Rattle.daily.proofs.Laws.{daily-within}
 use Rattle.codec.specs.declared.Counts.the-variants.{ByPeriod, ByDay}
@@ -25,12 +28,24 @@ use Rattle.codec.specs.declared.Request.the-variants.{PlaceReceiver, Wit
 use Rattle.codec.specs.Record.{recordOf}
 use Rattle.codec.specs.Inner.{filled, firstOf}
 use Rattle.codec.proofs.Laws.{first-filled}
-use Rattle.codec.specs.Kinds.{lastNamedSource, lastNamedReceiver, at, kindAt, layoutOf, callIn, sourceIn, leftoverOf, verdictOf, kindNumber, fieldsOf, sourceWith}
+use Rattle.codec.specs.Kinds.{lastNamedSource, lastNamedReceiver, at, kindAt, layoutOf, callIn, sourceIn, leftoverOf, verdictOf, courseKind, kindNumber, placedFields, fieldsOf, sourceWith}
 
 -- ---- an allowed call has fields that fit
 
-pub call-within : (c : Request) (s : Source) → verdictOf c s ≡ Allowed → Within (layoutOf (kindNumber c)) (fieldsOf c s)
-unfolding kindAt verdictOf
+-- a source on its course
+placed-within : (c : Course) (slot : ℕ) (s : Source) → slot ≤ lastNamedSource → courseVerdict c (restVerdict s) ≡ Allowed
+    → Within (layoutOf (courseKind c)) (placedFields c slot (sourceFields s))
+unfolding kindAt
+placed-within (Uncut p) slot s h e =
+    let w = source-within s (past pieceTable p (restVerdict s) e .1) in
+    (lit< tt, (omega arith, within-append (bitsBy pieceTable) (valuesBy pieceTable p) (bitsBy sourceTable) (sourceFields s) (piece-within p (restVerdict s) e) w))
+placed-within (Between d) slot s h e =
+    let w = source-within s (fit-course (Between d) (restVerdict s) e .1) in
+    let r = within-append (bitsBy sourceTable) (sourceFields s) (1 ∷ []) (0 ∷ []) w (lit< tt, tt) in
+    (lit< tt, (omega arith, within-append (bitsBy endsTable) (valuesBy endsTable d) (bitsBy sourceTable ++ (1 ∷ [])) (sourceFields s ++ (0 ∷ [])) (ends-within d (unlessOutside lengthTable d (restVerdict s)) e) r))
+
+pub call-within : (c : Request) (s : Source) → verdictOf c s ≡ Allowed → Within (layoutOf (kindNumber c s)) (fieldsOf c s)
+unfolding kindAt verdictOf sourceVerdict dailyVerdict
 call-within (PlaceReceiver slot r) s e =
     let a = slot-allowed lastNamedReceiver slot (receiverVerdict r) e in
     let w = receiver-within r (a .1) in
@@ -38,65 +53,95 @@ call-within (PlaceReceiver slot r) s e =
 call-within (WithdrawReceiver slot) s e = (lit< tt, (omega (arith, slot-allowed lastNamedReceiver slot Allowed e .0), (lit< tt, tt)))
 call-within (PlaceSource slot ByPeriod) s e =
     let a = slot-allowed lastNamedSource slot (sourceVerdict s) e in
-    (lit< tt, (omega (arith, a .0), source-within s (a .1)))
-call-within (PlaceSource slot (ByDay d)) s e =
-    let a = slot-allowed lastNamedSource slot (dailyVerdict d s) e in
-    (lit< tt, (omega (arith, a .0), within-append dailyBits (dailyFields d s) (2 ∷ []) (0 ∷ []) (daily-within d s (a .1)) (lit< tt, tt)))
+    placed-within (s .course) slot s (a .0) (a .1)
+call-within (PlaceSource slot (ByDay p d)) s e =
+    let a = slot-allowed lastNamedSource slot (dailyVerdict (Uncut p) d s) e in
+    let r = within-append dailyBits (dailyFields d s) (2 ∷ []) (0 ∷ []) (daily-within (Uncut p) d s (a .1)) (lit< tt, tt) in
+    (lit< tt, (omega (arith, a .0), within-append (bitsBy pieceTable) (valuesBy pieceTable p) (dailyBits ++ (2 ∷ [])) (dailyFields d s ++ (0 ∷ [])) (piece-within p _ (a .1)) r))
 call-within (WithdrawSource slot) s e = (lit< tt, (omega (arith, slot-allowed lastNamedSource slot Allowed e .0), (lit< tt, tt)))
 call-within (Ask slot) s e = (lit< tt, (omega (arith, slot-allowed lastNamedReceiver slot Allowed e .0), (lit< tt, tt)))
 
 -- ---- from a call to its fields and back
 
-pub call-length : (c : Request) (s : Source) → length (fieldsOf c s) ≡ length (layoutOf (kindNumber c))
+placed-length : (c : Course) (slot : ℕ) (s : Source) → length (placedFields c slot (sourceFields s)) ≡ length (layoutOf (courseKind c))
+unfolding kindAt
+placed-length (Uncut p) slot s = refl
+placed-length (Between e) slot s = refl
+
+pub call-length : (c : Request) (s : Source) → length (fieldsOf c s) ≡ length (layoutOf (kindNumber c s))
 unfolding kindAt
 call-length (PlaceReceiver slot r) s = refl
 call-length (WithdrawReceiver slot) s = refl
-call-length (PlaceSource slot ByPeriod) s = refl
-call-length (PlaceSource slot (ByDay d)) s = refl
+call-length (PlaceSource slot ByPeriod) s = placed-length (s .course) slot s
+call-length (PlaceSource slot (ByDay p d)) s = refl
 call-length (WithdrawSource slot) s = refl
 call-length (Ask slot) s = refl
 
-pub call-listed : (c : Request) → 0 < size (layoutOf (kindNumber c))
+placed-listed : (c : Course) → 0 < size (layoutOf (courseKind c))
 unfolding kindAt
-call-listed (PlaceReceiver slot r) = lit< tt
-call-listed (WithdrawReceiver slot) = lit< tt
-call-listed (PlaceSource slot ByPeriod) = lit< tt
-call-listed (PlaceSource slot (ByDay d)) = lit< tt
-call-listed (WithdrawSource slot) = lit< tt
-call-listed (Ask slot) = lit< tt
+placed-listed (Uncut p) = lit< tt
+placed-listed (Between e) = lit< tt
 
-pub call-kind : (c : Request) (s : Source) → at (fieldsOf c s) 0 ≡ kindNumber c
+pub call-listed : (c : Request) (s : Source) → 0 < size (layoutOf (kindNumber c s))
+unfolding kindAt
+call-listed (PlaceReceiver slot r) s = lit< tt
+call-listed (WithdrawReceiver slot) s = lit< tt
+call-listed (PlaceSource slot ByPeriod) s = placed-listed (s .course)
+call-listed (PlaceSource slot (ByDay p d)) s = lit< tt
+call-listed (WithdrawSource slot) s = lit< tt
+call-listed (Ask slot) s = lit< tt
+
+placed-kind : (c : Course) (slot : ℕ) (rest : List ℕ) → at (placedFields c slot rest) 0 ≡ courseKind c
+placed-kind (Uncut p) slot rest = refl
+placed-kind (Between e) slot rest = refl
+
+pub call-kind : (c : Request) (s : Source) → at (fieldsOf c s) 0 ≡ kindNumber c s
 call-kind (PlaceReceiver slot r) s = refl
 call-kind (WithdrawReceiver slot) s = refl
-call-kind (PlaceSource slot ByPeriod) s = refl
-call-kind (PlaceSource slot (ByDay d)) s = refl
+call-kind (PlaceSource slot ByPeriod) s = placed-kind (s .course) slot (sourceFields s)
+call-kind (PlaceSource slot (ByDay p d)) s = refl
 call-kind (WithdrawSource slot) s = refl
 call-kind (Ask slot) s = refl
 
-pub call-leftover : (c : Request) (s : Source) → leftoverOf (kindNumber c) (fieldsOf c s) ≡ 0
+placed-leftover : (c : Course) (slot : ℕ) (s : Source) → leftoverOf (courseKind c) (placedFields c slot (sourceFields s)) ≡ 0
+unfolding kindAt
+placed-leftover (Uncut p) slot s = refl
+placed-leftover (Between e) slot s = refl
+
+pub call-leftover : (c : Request) (s : Source) → leftoverOf (kindNumber c s) (fieldsOf c s) ≡ 0
 unfolding kindAt
 call-leftover (PlaceReceiver slot r) s = refl
 call-leftover (WithdrawReceiver slot) s = refl
-call-leftover (PlaceSource slot ByPeriod) s = refl
-call-leftover (PlaceSource slot (ByDay d)) s = refl
+call-leftover (PlaceSource slot ByPeriod) s = placed-leftover (s .course) slot s
+call-leftover (PlaceSource slot (ByDay p d)) s = refl
 call-leftover (WithdrawSource slot) s = refl
 call-leftover (Ask slot) s = refl
 
-pub call-again : (c : Request) (s : Source) → callIn (kindNumber c) (fieldsOf c s) ≡ c
+placed-again : (c : Course) (slot : ℕ) (rest : List ℕ) → callIn (courseKind c) (placedFields c slot rest) ≡ PlaceSource slot ByPeriod
+unfolding kindAt
+placed-again (Uncut p) slot rest = refl
+placed-again (Between e) slot rest = refl
+
+pub call-again : (c : Request) (s : Source) → callIn (kindNumber c s) (fieldsOf c s) ≡ c
 unfolding kindAt
 call-again (PlaceReceiver slot r) s = refl
 call-again (WithdrawReceiver slot) s = refl
-call-again (PlaceSource slot ByPeriod) s = refl
-call-again (PlaceSource slot (ByDay d)) s = refl
+call-again (PlaceSource slot ByPeriod) s = placed-again (s .course) slot (sourceFields s)
+call-again (PlaceSource slot (ByDay p d)) s = refl
 call-again (WithdrawSource slot) s = refl
 call-again (Ask slot) s = refl
 
-pub source-again : (c : Request) (s : Source) → length (s .traffic) ≡ 3 → sourceIn (kindNumber c) (fieldsOf c s) ≡ sourceWith c s
+placed-source : (c : Course) (slot : ℕ) (s : Source) → sourceIn (courseKind c) (placedFields c slot (sourceFields s)) ≡ sourceOf c (sourceFields s)
+unfolding kindAt
+placed-source (Uncut p) slot s = refl
+placed-source (Between e) slot s = refl
+
+pub source-again : (c : Request) (s : Source) → length (s .traffic) ≡ 3 → sourceIn (kindNumber c s) (fieldsOf c s) ≡ sourceWith c s
 unfolding kindAt
 source-again (PlaceReceiver slot r) s h = refl
 source-again (WithdrawReceiver slot) s h = refl
-source-again (PlaceSource slot ByPeriod) s h = rows.source-again s h
-source-again (PlaceSource slot (ByDay d)) s h = refl
+source-again (PlaceSource slot ByPeriod) s h = placed-source (s .course) slot s ∙ rows.source-again s h
+source-again (PlaceSource slot (ByDay p d)) s h = refl
 source-again (WithdrawSource slot) s h = refl
 source-again (Ask slot) s h = refl
 
@@ -106,18 +151,18 @@ unfolding verdictOf dailyVerdict
 verdict-with (PlaceReceiver slot r) s = refl
 verdict-with (WithdrawReceiver slot) s = refl
 verdict-with (PlaceSource slot ByPeriod) s = refl
-verdict-with (PlaceSource slot (ByDay d)) s = refl
+verdict-with (PlaceSource slot (ByDay p d)) s = refl
 verdict-with (WithdrawSource slot) s = refl
 verdict-with (Ask slot) s = refl
 
 -- ---- the fields of a call in the writer's array
 
-module _ (c : Request) (s : Source) (k : ℕ) (v : List ℕ) (e : k ≡ kindNumber c) (f : v ≡ filled (fieldsOf c s)) where
+module _ (c : Request) (s : Source) (k : ℕ) (v : List ℕ) (e : k ≡ kindNumber c s) (f : v ≡ filled (fieldsOf c s)) where
   first-fields : firstOf k v ≡ fieldsOf c s
-  first-fields = (λ i. firstOf (e i) (f i)) ∙ first-filled (kindNumber c) (fieldsOf c s) (call-length c s)
+  first-fields = (λ i. firstOf (e i) (f i)) ∙ first-filled (kindNumber c s) (fieldsOf c s) (call-length c s)
 
   pub written-within : verdictOf c s ≡ Allowed → Within (layoutOf k) (firstOf k v)
-  written-within h = subst⁻¹ (λ (j : ℕ). Within (layoutOf j) (firstOf k v)) e (subst⁻¹ (Within (layoutOf (kindNumber c))) first-fields (call-within c s h))
+  written-within h = subst⁻¹ (λ (j : ℕ). Within (layoutOf j) (firstOf k v)) e (subst⁻¹ (Within (layoutOf (kindNumber c s))) first-fields (call-within c s h))
 
   pub written-record : packed (layoutOf k) (firstOf k v) ≡ recordOf c s
   unfolding recordOf
@@ -125,7 +170,7 @@ module _ (c : Request) (s : Source) (k : ℕ) (v : List ℕ) (e : k ≡ kindNumb
 
 -- ---- from fields to their call and back
 
-pub kind-again : (k slot : ℕ) (v : List ℕ) → 0 < size (layoutOf k) → kindNumber (kindAt k .call slot v) ≡ k
+pub kind-again : (k slot : ℕ) (v : List ℕ) → 0 < size (layoutOf k) → kindNumber (kindAt k .call slot v) (kindAt k .source v) ≡ k
 unfolding kindAt
 kind-again zero slot v h = absurd (omega arith)
 kind-again (suc zero) slot v h = refl
@@ -134,7 +179,8 @@ kind-again (suc (suc (suc zero))) slot v h = refl
 kind-again (suc (suc (suc (suc zero)))) slot v h = refl
 kind-again (suc (suc (suc (suc (suc zero))))) slot v h = refl
 kind-again (suc (suc (suc (suc (suc (suc zero)))))) slot v h = refl
-kind-again (suc (suc (suc (suc (suc (suc (suc k))))))) slot v h = absurd (omega arith)
+kind-again (suc (suc (suc (suc (suc (suc (suc zero))))))) slot v h = refl
+kind-again (suc (suc (suc (suc (suc (suc (suc (suc k)))))))) slot v h = absurd (omega arith)
 
 -- n fields and the leftover bits, which are zero
 left-over : (n : ℕ) (v : List ℕ) → length v ≡ suc n → at v n ≡ 0 → upto (at v) n ++ (0 ∷ []) ≡ v
@@ -156,14 +202,28 @@ begun-over : (k : ℕ) (v : List ℕ) (n : ℕ) → length v ≡ suc (suc (suc n
     → k ∷ at v 1 ∷ (upto (at (drop 2 v)) n ++ (0 ∷ [])) ≡ v
 begun-over k v n l e z = begun k v (suc n) l e (left-over n (drop 2 v) (after k v (suc n) l e) (getD-drop 2 v n 0 ∙ z))
 
+-- the first n of some numbers, and what follows them
+front : (n : ℕ) (w : List ℕ) → n ≤ length w → {r : List ℕ} → r ≡ drop n w → upto (at w) n ++ r ≡ w
+front n w h e = (λ i. (sym (upto-take n w) ∙ all-of n (take n w) (length-take-le n w h)) i ++ e i) ∙ take-append-drop n w
+
+-- the first n and m after them, and leftover bits, which are zero
+front-over : (n m : ℕ) (w : List ℕ) → length w ≡ n + suc m → at w (n + m) ≡ 0 → upto (at w) n ++ (upto (at (drop n w)) m ++ (0 ∷ [])) ≡ w
+front-over n m w l z = front n w (omega arith) (left-over m (drop n w) (omega (arith, length-drop n w)) (getD-drop n w m 0 ∙ z))
+
 pub fields-again : (k : ℕ) (v : List ℕ) → 0 < size (layoutOf k) → length v ≡ length (layoutOf k) → at v 0 ≡ k → leftoverOf k v ≡ 0
     → fieldsOf (callIn k v) (sourceIn k v) ≡ v
 unfolding kindAt
 fields-again zero v h l e f = absurd (omega arith)
 fields-again (suc zero) v h l e f = begun-over 1 v (length receiverTable) l e f
 fields-again (suc (suc zero)) v h l e f = begun-over 2 v 0 l e f
-fields-again (suc (suc (suc zero))) v h l e f = begun 3 v (length sourceTable) l e (source-values-again (drop 2 v) (after 3 v (length sourceTable) l e))
+fields-again (suc (suc (suc zero))) v h l e f =
+    let w = drop 2 v in
+    let n = after 3 v 18 l e in
+    begun 3 v 18 l e (front (length pieceTable) w (omega arith) (source-values-again (Uncut (pieceOf w)) (drop (length pieceTable) w) (omega (arith, length-drop (length pieceTable) w))))
 fields-again (suc (suc (suc (suc zero)))) v h l e f = begun-over 4 v 0 l e f
 fields-again (suc (suc (suc (suc (suc zero))))) v h l e f = begun-over 5 v 0 l e f
-fields-again (suc (suc (suc (suc (suc (suc zero)))))) v h l e f = begun-over 6 v (length dailyBits) l e f
-fields-again (suc (suc (suc (suc (suc (suc (suc k))))))) v h l e f = absurd (omega arith)
+fields-again (suc (suc (suc (suc (suc (suc zero)))))) v h l e f =
+    begun 6 v 15 l e (front-over (length pieceTable) (length dailyBits) (drop 2 v) (after 6 v 15 l e) (getD-drop 2 v 14 0 ∙ f))
+fields-again (suc (suc (suc (suc (suc (suc (suc zero))))))) v h l e f =
+    begun 7 v 20 l e (front-over (length endsTable) (length sourceTable) (drop 2 v) (after 7 v 20 l e) (getD-drop 2 v 19 0 ∙ f))
+fields-again (suc (suc (suc (suc (suc (suc (suc (suc k)))))))) v h l e f = absurd (omega arith)

@@ -1,18 +1,19 @@
 -- What the reader and the writer come to, case by case, over plain values; and the laws of fields with zeros after them.
 -- Assumes nothing.
 use Prim.Native.Nat.{ℕ, zero, suc, _+_, _≤_, _<_}
-use mathlib.Core.Path.{_≡_, refl, sym, ap, _∙_, subst⁻¹}
+use mathlib.Core.Path.{_≡_, refl, sym, ap, ap₂, _∙_, subst, subst⁻¹}
 use mathlib.Core.Bool.{Bool, true, false, cond, _||_}
 use mathlib.Core.List.{List, [], _∷_, _++_, append-assoc}
-use native.Mathlib.Nat.{lt-of-lt-of-le}
+use native.Mathlib.Nat.{lt-of-lt-of-le, add-zero}
 use native.Mathlib.Numerals.{add-one}
 use native.Mathlib.Omega.{arith}
 use borrow.Author.Tests.{le-leb, lt-leb, leb-true, ltb-false, lt-ltb, le-ltb}
 use lib.Dec.{leb, ltb, eqb}
 use lib.ListN.{length, getD, take, drop, replicate, set, length-append, length-map}
-use lib.Seq.{getD-drop, take-at, drop-cons, set-at, take-suc, length-take-le, take-length, take-all}
+use lib.Seq.{getD-drop, take-at, drop-cons, drop-drop, drop-append-add, set-at, take-suc, length-take-le, take-length, take-all}
 use lib.Pow.{pow-mono}
 use Rattle.layout.specs.Layout.{size, fields, Within, bits, num}
+use Rattle.layout.specs.Over.{over}
 use Rattle.layout.proofs.Packing.{within-length, within-at, within-front}
 use Rattle.layout.proofs.Laws.{length-fields, length-packed}
 use Rattle.answer.specs.declared.Refusal.{Refusal}
@@ -93,6 +94,16 @@ joined-all a b f v i e h =
     h ∙ (λ j. a ∷ b ∷ (take (e j) f ++ drop (e j) (replicate 23 0)))
     ∙ ap (λ (x : List ℕ). a ∷ b ∷ (x ++ drop (length f) (replicate 23 0))) (take-length f)
 
+-- values laid behind fields
+pub filled-more : (w t : List ℕ) → over (length w) t (filled w) ≡ filled (w ++ t)
+unfolding filled over
+filled-more w t =
+    let z : List ℕ = replicate 25 0 in
+    let n = length w in
+    let e : drop (n + length t) (w ++ drop n z) ≡ drop (length (w ++ t)) z =
+    drop-append-add w (drop n z) (length t) ∙ drop-drop (length t) n z ∙ ap (λ (k : ℕ). drop k z) (sym (length-append w t)) in
+    ap₂ (λ (x y : List ℕ). x ++ (t ++ y)) (take-at w (drop n z) n refl) e ∙ sym (append-assoc w t (drop (length (w ++ t)) z))
+
 -- ---- fields within their widths
 
 -- the slot is there, and fits sixteen bits
@@ -105,27 +116,34 @@ module _ (k : ℕ) (v : List ℕ) (h : 0 < size (layoutOf k)) (w : Within (layou
       let b = row-begun k h in
       lt-of-lt-of-le (within-at (layoutOf k) v 1 w (b .two)) (pow-mono {i = at (layoutOf k) 1} {j = 16} (b .slot))
 
--- the fields that follow kind and slot are there, and fit
-pub part-within : (a b : ℕ) (ws v : List ℕ) → Within (a ∷ b ∷ ws) v → Within ws (drop 2 v)
-part-within a b ws [] w = absurd w
-part-within a b ws (x ∷ []) w = absurd (w .1)
-part-within a b ws (x ∷ y ∷ v) w = w .1 .1
+-- the fields that follow others are there, and fit
+pub part-within : (us ws v : List ℕ) → Within (us ++ ws) v → Within ws (drop (length us) v)
+part-within [] ws v w = w
+part-within (u ∷ us) ws [] w = absurd w
+part-within (u ∷ us) ws (x ∷ v) w = part-within us ws v (w .1)
 
-module _ (slot : ℕ) (ws left : List ℕ) where
-  pub part-there : (v : List ℕ) → Within (kindBits ∷ slot ∷ (ws ++ left)) v → 2 + length ws ≤ length v
-  part-there v w = omega (arith, within-length (kindBits ∷ slot ∷ (ws ++ left)) v w, length-append ws left)
+module _ (us ws left : List ℕ) where
+  pub part-there : (v : List ℕ) → Within (us ++ (ws ++ left)) v → length us + length ws ≤ length v
+  part-there v w = omega (arith, within-length (us ++ (ws ++ left)) v w, length-append us (ws ++ left), length-append ws left)
 
-  pub part-fits : (v : List ℕ) → Within (kindBits ∷ slot ∷ (ws ++ left)) v → Within ws (take (length ws) (drop 2 v))
-  part-fits v w = within-front ws left (drop 2 v) (part-within kindBits slot (ws ++ left) v w)
+  pub part-fits : (v : List ℕ) → Within (us ++ (ws ++ left)) v → Within ws (take (length ws) (drop (length us) v))
+  part-fits v w = within-front ws left (drop (length us) v) (part-within us (ws ++ left) v w)
 
--- the fields of a table that follow kind and slot are there, and fit what the code makes of them
-pub table-fits : {A : Type 0} (t : List (Row A)) (slot : ℕ) (left v : List ℕ) → roomy t ≡ true → Within (kindBits ∷ slot ∷ (bitsBy t ++ left)) v
-    → (2 + length t ≤ length v) × Fit (slotBitsBy t) 2 v
-table-fits {A} t slot left v h w =
-    let ws = kindBits ∷ slot ∷ (bitsBy t ++ left) in
+fit-behind : (us ws : List ℕ) (k : ℕ) (v : List ℕ) → Fit (us ++ ws) k v → Fit ws (k + length us) v
+fit-behind [] ws k v f = rw (add-zero k) f
+fit-behind (u ∷ us) ws k v f = let e : suc k + length us ≡ k + suc (length us) = omega arith in subst (λ (n : ℕ). Fit ws n v) e (fit-behind us ws (suc k) v (f .1))
+
+-- the fields of a table that follow others are there, and fit what the code makes of them
+pub table-fits : {A : Type 0} (t : List (Row A)) (us left v : List ℕ) → roomy t ≡ true → Within (us ++ (bitsBy t ++ left)) v
+    → (length us + length t ≤ length v) × Fit (slotBitsBy t) (length us) v
+table-fits {A} t us left v h w =
+    let ws = us ++ (bitsBy t ++ left) in
     let n = within-length ws v w in
     let f = record-fit ws v (subst⁻¹ (Within ws) (take-all (length ws) v (omega arith)) w) in
-    (omega (arith, length-append (bitsBy t) left, length-map t (λ (r : Row A). r .bits)), fit-wider t left 2 v h (f .1 .1))
+    let z : 0 + length us ≡ length us = omega arith in (
+      omega (arith, length-append us (bitsBy t ++ left), length-append (bitsBy t) left, length-map t (λ (r : Row A). r .bits)),
+      fit-wider t left (length us) v h (subst (λ (k : ℕ). Fit (bitsBy t ++ left) k v) z (fit-behind us (bitsBy t ++ left) 0 v f)),
+    )
 
 -- ---- the kind and the extent
 
@@ -206,12 +224,12 @@ module _ (call : Request) (source : Source) (out : List ℕ) where
   unfolding writeOf
   write-refused why h = sym (ap (λ (v : Verdict). writtenBy v (recordOf call source) out) h)
 
-  record-length : length (recordOf call source) ≡ size (layoutOf (kindNumber call))
+  record-length : length (recordOf call source) ≡ size (layoutOf (kindNumber call source))
   unfolding recordOf
-  record-length = length-packed (layoutOf (kindNumber call)) (fieldsOf call source)
+  record-length = length-packed (layoutOf (kindNumber call source)) (fieldsOf call source)
 
   module _ (h : verdictOf call source ≡ verdict.Allowed) where
-    pub write-short : length out < size (layoutOf (kindNumber call))
+    pub write-short : length out < size (layoutOf (kindNumber call source))
         → _≡_ {A = Written × List ℕ} (written.Refused CutShort, out) (writeOf call source out)
     unfolding writeOf
     write-short l =
@@ -219,8 +237,8 @@ module _ (call : Request) (source : Source) (out : List ℕ) where
         let e : ltb (length out) (length (recordOf call source)) ≡ true = lt-ltb (length out) (length (recordOf call source)) t in
         sym (ap (λ (v : Verdict). writtenBy v (recordOf call source) out) h ∙ rw e refl)
 
-    pub write-done : size (layoutOf (kindNumber call)) ≤ length out
-        → _≡_ {A = Written × List ℕ} (written.Done, recordOf call source ++ drop (size (layoutOf (kindNumber call))) out) (writeOf call source out)
+    pub write-done : size (layoutOf (kindNumber call source)) ≤ length out
+        → _≡_ {A = Written × List ℕ} (written.Done, recordOf call source ++ drop (size (layoutOf (kindNumber call source))) out) (writeOf call source out)
     unfolding writeOf
     write-done l =
         let t : length (recordOf call source) ≤ length out = omega (arith, record-length) in
@@ -230,25 +248,27 @@ module _ (call : Request) (source : Source) (out : List ℕ) where
 
 -- ---- the kinds that the code does not name
 
-pub ask-else : (k slot : ℕ) (v : List ℕ) → (k ≡ 1 → ⊥) → (k ≡ 2 → ⊥) → (k ≡ 3 → ⊥) → (k ≡ 4 → ⊥) → (k ≡ 6 → ⊥)
+pub ask-else : (k slot : ℕ) (v : List ℕ) → (k ≡ 1 → ⊥) → (k ≡ 2 → ⊥) → (k ≡ 3 → ⊥) → (k ≡ 4 → ⊥) → (k ≡ 6 → ⊥) → (k ≡ 7 → ⊥)
     → kindAt k .call slot v ≡ Ask slot
 unfolding kindAt
-ask-else zero slot v a b c d e = refl
-ask-else (suc zero) slot v a b c d e = absurd (a refl)
-ask-else (suc (suc zero)) slot v a b c d e = absurd (b refl)
-ask-else (suc (suc (suc zero))) slot v a b c d e = absurd (c refl)
-ask-else (suc (suc (suc (suc zero)))) slot v a b c d e = absurd (d refl)
-ask-else (suc (suc (suc (suc (suc zero))))) slot v a b c d e = refl
-ask-else (suc (suc (suc (suc (suc (suc zero)))))) slot v a b c d e = absurd (e refl)
-ask-else (suc (suc (suc (suc (suc (suc (suc k))))))) slot v a b c d e = refl
+ask-else zero slot v a b c d e f = refl
+ask-else (suc zero) slot v a b c d e f = absurd (a refl)
+ask-else (suc (suc zero)) slot v a b c d e f = absurd (b refl)
+ask-else (suc (suc (suc zero))) slot v a b c d e f = absurd (c refl)
+ask-else (suc (suc (suc (suc zero)))) slot v a b c d e f = absurd (d refl)
+ask-else (suc (suc (suc (suc (suc zero))))) slot v a b c d e f = refl
+ask-else (suc (suc (suc (suc (suc (suc zero)))))) slot v a b c d e f = absurd (e refl)
+ask-else (suc (suc (suc (suc (suc (suc (suc zero))))))) slot v a b c d e f = absurd (f refl)
+ask-else (suc (suc (suc (suc (suc (suc (suc (suc k)))))))) slot v a b c d e f = refl
 
-pub blank-else : (k : ℕ) (v : List ℕ) → (k ≡ 3 → ⊥) → (k ≡ 6 → ⊥) → kindAt k .source v ≡ blank
+pub blank-else : (k : ℕ) (v : List ℕ) → (k ≡ 3 → ⊥) → (k ≡ 6 → ⊥) → (k ≡ 7 → ⊥) → kindAt k .source v ≡ blank
 unfolding kindAt
-blank-else zero v a b = refl
-blank-else (suc zero) v a b = refl
-blank-else (suc (suc zero)) v a b = refl
-blank-else (suc (suc (suc zero))) v a b = absurd (a refl)
-blank-else (suc (suc (suc (suc zero)))) v a b = refl
-blank-else (suc (suc (suc (suc (suc zero))))) v a b = refl
-blank-else (suc (suc (suc (suc (suc (suc zero)))))) v a b = absurd (b refl)
-blank-else (suc (suc (suc (suc (suc (suc (suc k))))))) v a b = refl
+blank-else zero v a b c = refl
+blank-else (suc zero) v a b c = refl
+blank-else (suc (suc zero)) v a b c = refl
+blank-else (suc (suc (suc zero))) v a b c = absurd (a refl)
+blank-else (suc (suc (suc (suc zero)))) v a b c = refl
+blank-else (suc (suc (suc (suc (suc zero))))) v a b c = refl
+blank-else (suc (suc (suc (suc (suc (suc zero)))))) v a b c = absurd (b refl)
+blank-else (suc (suc (suc (suc (suc (suc (suc zero))))))) v a b c = absurd (c refl)
+blank-else (suc (suc (suc (suc (suc (suc (suc (suc k)))))))) v a b c = refl

@@ -1,5 +1,6 @@
 -- The numbers of a call's verdict: the judge of its slot and fields gives 5 to 7.
 -- Assumes nothing.
+use Rattle.course.specs.declared.Course.the-variants.{Uncut}
 use Rattle.road.specs.declared.Source.{Source}
 use Rattle.road.specs.declared.Verdict.the-variants as verdict
 use Rattle.road.specs.Judge.{receiverVerdict, sourceVerdict}
@@ -16,6 +17,6 @@ unfolding verdictOf
 verdict-by (PlaceReceiver slot r) s = slot-by lastNamedReceiver slot (receiverVerdict r) (receiver-by r)
 verdict-by (WithdrawReceiver slot) s = slot-by lastNamedReceiver slot verdict.Allowed tt
 verdict-by (PlaceSource slot ByPeriod) s = slot-by lastNamedSource slot (sourceVerdict s) (source-by s)
-verdict-by (PlaceSource slot (ByDay d)) s = slot-by lastNamedSource slot (dailyVerdict d s) (daily-by d s)
+verdict-by (PlaceSource slot (ByDay p d)) s = slot-by lastNamedSource slot (dailyVerdict (Uncut p) d s) (daily-by (Uncut p) d s)
 verdict-by (WithdrawSource slot) s = slot-by lastNamedSource slot verdict.Allowed tt
 verdict-by (Ask slot) s = slot-by lastNamedReceiver slot verdict.Allowed tt

@@ -98,11 +98,11 @@ write-read s out c r b l e =
     let k = kindOf s in
     let v = valuesOf s in
     let x : extentOf s ≡ lengthOf s = sym (extent-whole s (a .whole)) in
-    let n : kindNumber c ≡ k = ap kindNumber (sym (a .call)) ∙ kind-again k (at v 1) (drop 2 v) (a .listed) in
+    let n : kindNumber c r ≡ k = sym (ap₂ kindNumber (a .call) (a .source)) ∙ kind-again k (at v 1) (drop 2 v) (a .listed) in
     let f : fieldsOf c r ≡ v =
     sym (ap₂ fieldsOf (a .call) (a .source))
     ∙ fields-again k v (a .listed) (length-fields (layoutOf k) s) (kind-first k s (a .listed) (a .whole) b) (a .clean) in
-    let z : size (layoutOf (kindNumber c)) ≡ extentOf s = ap (λ (j : ℕ). size (layoutOf j)) n ∙ sym x in
+    let z : size (layoutOf (kindNumber c r)) ≡ extentOf s = ap (λ (j : ℕ). size (layoutOf j)) n ∙ sym x in
     let p : recordOf c r ≡ take (extentOf s) s =
     (λ i. packed (layoutOf (n i)) (f i)) ∙ packed-fields (layoutOf k) s (row-sized k) (a .whole) b ∙ ap (λ (j : ℕ). take j s) (sym x) in
     sym (write-done c r out (a .allowed) (omega arith)) ∙ (λ i. (written.Done, p i ++ drop (z i) out))
@@ -139,19 +139,19 @@ read-fields k t h l e z =
     ∙ ap (λ (j : ℕ). heard j (fields (layoutOf j) t)) e
 
 -- the record of a call whose fields fit is read as the call, if it is allowed
-pub read-record : (c : Request) (r : Source) (rest : List ℕ) → Within (layoutOf (kindNumber c)) (fieldsOf c r) → Bytes rest → length (r .traffic) ≡ 3
+pub read-record : (c : Request) (r : Source) (rest : List ℕ) → Within (layoutOf (kindNumber c r)) (fieldsOf c r) → Bytes rest → length (r .traffic) ≡ 3
     → readOf (recordOf c r ++ rest) ≡ heardBy c (sourceWith c r)
 unfolding recordOf
 read-record c r rest w b h =
-    let k = kindNumber c in
+    let k = kindNumber c r in
     let v = fieldsOf c r in
     let p = packed (layoutOf k) v in
     let t = p ++ rest in
     let f : fields (layoutOf k) t ≡ v = fields-packed (layoutOf k) v rest (row-sized k) w in
     let l : size (layoutOf k) ≤ length t = omega (arith, length-append p rest, length-packed (layoutOf k) v) in
     let y : Bytes t = bytes-append p rest (packed-bytes (layoutOf k) v) b in
-    let n : kindOf t ≡ k = sym (kind-first k t (call-listed c) l y) ∙ ap (λ (x : List ℕ). at x 0) f ∙ call-kind c r in
-    read-fields k t (call-listed c) l n (ap (leftoverOf k) f ∙ call-leftover c r)
+    let n : kindOf t ≡ k = sym (kind-first k t (call-listed c r) l y) ∙ ap (λ (x : List ℕ). at x 0) f ∙ call-kind c r in
+    read-fields k t (call-listed c r) l n (ap (leftoverOf k) f ∙ call-leftover c r)
     ∙ ap (heard k) f
     ∙ ap₂ heardBy (call-again c r) (source-again c r h)
 
@@ -186,7 +186,8 @@ kind-periods (suc (suc (suc zero))) v = refl
 kind-periods (suc (suc (suc (suc zero)))) v = refl
 kind-periods (suc (suc (suc (suc (suc zero))))) v = refl
 kind-periods (suc (suc (suc (suc (suc (suc zero)))))) v = refl
-kind-periods (suc (suc (suc (suc (suc (suc (suc k))))))) v = refl
+kind-periods (suc (suc (suc (suc (suc (suc (suc zero))))))) v = refl
+kind-periods (suc (suc (suc (suc (suc (suc (suc (suc k)))))))) v = refl
 
 judged-periods : (v : Verdict) (c : Request) (s : Source) → length (s .traffic) ≡ 3 → length (judged v c s .source .traffic) ≡ 3
 judged-periods verdict.Allowed c s e = e

@@ -4,10 +4,12 @@ use Prim.Native.Nat.{ℕ, suc, _-_, _^_, max}
 use mathlib.Core.List.{List, [], _∷_, _++_}
 use lib.ListN.{length, getD, drop}
 use Rattle.layout.specs.Layout.{size}
+use Rattle.course.specs.declared.Course.{Course}
+use Rattle.course.specs.declared.Course.the-variants.{Uncut, Between}
 use Rattle.road.specs.declared.Source.{Source}
 use Rattle.road.specs.declared.Verdict.{Verdict}
 use Rattle.road.specs.declared.Verdict.the-variants.{Allowed}
-use Rattle.road.specs.Fields.{sourceTable, receiverTable, sourceOf, receiverOf, bitsBy}
+use Rattle.road.specs.Fields.{pieceTable, endsTable, sourceTable, receiverTable, pieceOf, endsOf, sourceOf, receiverOf, valuesBy, bitsBy}
 use Rattle.road.specs.Judge.{sourceFields, receiverFields, sourceVerdict, receiverVerdict, slotVerdict}
 use Rattle.daily.specs.Daily.{dailyBits, dailyFields, dailyOf, counted, dailyVerdict}
 use Rattle.codec.specs.declared.Counts.{Counts}
@@ -44,11 +46,18 @@ kind slot ws left f g = record { widths = kindBits ∷ slot ∷ (ws ++ left); fi
 
 -- what stands beside a call that places no source
 abbrev pub blank : Source
-blank = sourceOf []
+blank = sourceOf (Uncut (pieceOf [])) []
 
 -- what stands for every kind that has no row: it has no bytes, and so is refused
 abbrev pub unlisted : Kind
 unlisted = record { widths = []; fields = 0; call = λ slot v. Ask slot; source = λ v. blank }
+
+-- what follows the middle and the length, or the two ends, of a source
+abbrev pub afterPiece : List ℕ → List ℕ
+afterPiece v = drop (length pieceTable) v
+
+abbrev pub afterEnds : List ℕ → List ℕ
+afterEnds v = drop (length endsTable) v
 
 -- row k is kind k; there is no kind 0
 abbrev pub kinds : List Kind
@@ -59,16 +68,22 @@ kinds =
     -- 2: withdraw receiver, 2 bytes
     ∷ kind receiverSlotBits [] (6 ∷ []) (λ slot v. WithdrawReceiver slot) (λ v. blank)
     -- 3: place source, 30 bytes
-    ∷ kind sourceSlotBits (bitsBy sourceTable) [] (λ slot v. PlaceSource slot ByPeriod) sourceOf
+    ∷ kind sourceSlotBits (bitsBy pieceTable ++ bitsBy sourceTable) []
+    (λ slot v. PlaceSource slot ByPeriod) (λ v. sourceOf (Uncut (pieceOf v)) (afterPiece v))
     -- 4: withdraw source, 2 bytes
     ∷ kind sourceSlotBits [] (3 ∷ []) (λ slot v. WithdrawSource slot) (λ v. blank)
     -- 5: ask, 2 bytes
     ∷ kind receiverSlotBits [] (6 ∷ []) (λ slot v. Ask slot) (λ v. blank)
     -- 6: place a source by its daily figure, 20 bytes
-    ∷ kind sourceSlotBits dailyBits (2 ∷ []) (λ slot v. PlaceSource slot (ByDay (dailyOf v))) (λ v. counted (dailyOf v) (sourceOf v))
+    ∷ kind sourceSlotBits (bitsBy pieceTable ++ dailyBits) (2 ∷ [])
+    (λ slot v. PlaceSource slot (ByDay (pieceOf v) (dailyOf (afterPiece v))))
+    (λ v. counted (Uncut (pieceOf v)) (dailyOf (afterPiece v)) (sourceOf (Uncut (pieceOf v)) (afterPiece v)))
+    -- 7: place a source by its ends, 34 bytes
+    ∷ kind sourceSlotBits (bitsBy endsTable ++ bitsBy sourceTable) (1 ∷ [])
+    (λ slot v. PlaceSource slot ByPeriod) (λ v. sourceOf (Between (endsOf v)) (afterEnds v))
     ∷ []
 
--- the bytes of the longest record: 30
+-- the bytes of the longest record: 34
 abbrev pub longestOf : List Kind → ℕ
 longestOf [] = 0
 longestOf (k ∷ ks) = max (size (k .widths)) (longestOf ks)
@@ -111,7 +126,7 @@ lastNamedReceiver = 2 ^ receiverSlotBits - 1
 -- whether a source is allowed, by how its traffic is told
 abbrev pub countsVerdict : Counts → Source → Verdict
 countsVerdict ByPeriod s = sourceVerdict s
-countsVerdict (ByDay d) s = dailyVerdict d s
+countsVerdict (ByDay p d) s = dailyVerdict (Uncut p) d s
 
 -- whether it is allowed, by the limits of slots, receivers and sources: refusals 5, 6 and 7
 unfoldable pub verdictOf : Request → Source → Verdict
@@ -121,24 +136,33 @@ verdictOf (PlaceSource slot counts) s = slotVerdict lastNamedSource slot (counts
 verdictOf (WithdrawSource slot) s = slotVerdict lastNamedSource slot Allowed
 verdictOf (Ask slot) s = slotVerdict lastNamedReceiver slot Allowed
 
--- its kind
-abbrev pub countsKind : Counts → ℕ
-countsKind ByPeriod = 3
-countsKind (ByDay d) = 6
+-- its kind, which for a source depends on its course
+abbrev pub courseKind : Course → ℕ
+courseKind (Uncut p) = 3
+courseKind (Between e) = 7
 
-abbrev pub kindNumber : Request → ℕ
-kindNumber (PlaceReceiver slot r) = 1
-kindNumber (WithdrawReceiver slot) = 2
-kindNumber (PlaceSource slot counts) = countsKind counts
-kindNumber (WithdrawSource slot) = 4
-kindNumber (Ask slot) = 5
+abbrev pub countsKind : Counts → Source → ℕ
+countsKind ByPeriod s = courseKind (s .course)
+countsKind (ByDay p d) s = 6
+
+abbrev pub kindNumber : Request → Source → ℕ
+kindNumber (PlaceReceiver slot r) s = 1
+kindNumber (WithdrawReceiver slot) s = 2
+kindNumber (PlaceSource slot counts) s = countsKind counts s
+kindNumber (WithdrawSource slot) s = 4
+kindNumber (Ask slot) s = 5
+
+-- those of a source by its course: the kind, the slot, the course, the other fields, and the leftover bits
+abbrev pub placedFields : Course → ℕ → List ℕ → List ℕ
+placedFields (Uncut p) slot rest = 3 ∷ slot ∷ (valuesBy pieceTable p ++ rest)
+placedFields (Between e) slot rest = 7 ∷ slot ∷ (valuesBy endsTable e ++ (rest ++ (0 ∷ [])))
 
 -- its kind, its fields, and its leftover bits, which are zero
 abbrev pub fieldsOf : Request → Source → List ℕ
 fieldsOf (PlaceReceiver slot r) s = 1 ∷ slot ∷ (receiverFields r ++ (0 ∷ []))
 fieldsOf (WithdrawReceiver slot) s = 2 ∷ slot ∷ 0 ∷ []
-fieldsOf (PlaceSource slot ByPeriod) s = 3 ∷ slot ∷ sourceFields s
-fieldsOf (PlaceSource slot (ByDay d)) s = 6 ∷ slot ∷ (dailyFields d s ++ (0 ∷ []))
+fieldsOf (PlaceSource slot ByPeriod) s = placedFields (s .course) slot (sourceFields s)
+fieldsOf (PlaceSource slot (ByDay p d)) s = 6 ∷ slot ∷ (valuesBy pieceTable p ++ (dailyFields d s ++ (0 ∷ [])))
 fieldsOf (WithdrawSource slot) s = 4 ∷ slot ∷ 0 ∷ []
 fieldsOf (Ask slot) s = 5 ∷ slot ∷ 0 ∷ []
 
@@ -147,6 +171,6 @@ abbrev pub sourceWith : Request → Source → Source
 sourceWith (PlaceReceiver slot r) s = blank
 sourceWith (WithdrawReceiver slot) s = blank
 sourceWith (PlaceSource slot ByPeriod) s = s
-sourceWith (PlaceSource slot (ByDay d)) s = counted d s
+sourceWith (PlaceSource slot (ByDay p d)) s = counted (Uncut p) d s
 sourceWith (WithdrawSource slot) s = blank
 sourceWith (Ask slot) s = blank

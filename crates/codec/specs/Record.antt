@@ -95,7 +95,7 @@ partOf s = partBy (readOf s .told) s
 
 -- the bytes of a call
 unfoldable pub recordOf : Request → Source → List ℕ
-recordOf call source = packed (layoutOf (kindNumber call)) (fieldsOf call source)
+recordOf call source = packed (layoutOf (kindNumber call source)) (fieldsOf call source)
 
 -- refusals 5, 6 and 7; then 2, if the output is shorter than the record. The bytes past the record stay.
 abbrev pub writtenBy : Verdict → List ℕ → List ℕ → Written × List ℕ

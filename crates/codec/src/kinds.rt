@@ -2,17 +2,19 @@
 // A new kind is a new row of the tables and a new arm of each match.
 use crate::Counts;
 use crate::Request;
+use course::Course;
 use road::Source;
 use road::Verdict;
 use road::fields;
 use road::judge;
 ghost use mathlib.Core.Path.{_≡_};
-ghost use mathlib.Core.List.{_∷_};
-ghost use Prim.Native.Nat.{_≤_, _<_};
+ghost use mathlib.Core.List.{_∷_, _++_};
+ghost use Prim.Native.Nat.{_+_, _≤_, _<_};
 ghost use lib.ListN.{length};
 ghost use Rattle.level.specs.Table.{table};
 ghost use Rattle.layout.specs.Layout.{size, Within};
-ghost use Rattle.codec.specs.Kinds.{kindAt, layoutOf, callIn, sourceIn, countsVerdict, countsKind, verdictOf, kindNumber, fieldsOf};
+ghost use Rattle.codec.specs.Kinds.{kindAt, layoutOf, callIn, sourceIn, countsVerdict, courseKind, countsKind, verdictOf, kindNumber, placedFields, fieldsOf};
+ghost use Rattle.road.specs.Judge.{sourceFields};
 ghost use Rattle.codec.specs.declared.Request.the-variants.{PlaceSource};
 ghost use Rattle.codec.specs.Kinds as kinds;
 ghost use Rattle.codec.specs.Inner.{allWidths, filled, shapeOf};
@@ -25,7 +27,7 @@ const SOURCE_SLOT_BITS: u8 = 9;
 const RECEIVER_SLOT_BITS: u8 = 6;
 
 // The widths in bits of one kind after the other: the kind itself, its fields, and its leftover bits where there are any.
-const WIDTHS: [u8; 52] = [
+const WIDTHS: [u8; 74] = [
     // 1: place receiver
     KIND_BITS,
     RECEIVER_SLOT_BITS,
@@ -40,6 +42,9 @@ const WIDTHS: [u8; 52] = [
     // 3: place source
     KIND_BITS,
     SOURCE_SLOT_BITS,
+    fields::PIECE[0][fields::BITS] as u8,
+    fields::PIECE[1][fields::BITS] as u8,
+    fields::PIECE[2][fields::BITS] as u8,
     fields::SOURCE[0][fields::BITS] as u8,
     fields::SOURCE[1][fields::BITS] as u8,
     fields::SOURCE[2][fields::BITS] as u8,
@@ -55,9 +60,6 @@ const WIDTHS: [u8; 52] = [
     fields::SOURCE[12][fields::BITS] as u8,
     fields::SOURCE[13][fields::BITS] as u8,
     fields::SOURCE[14][fields::BITS] as u8,
-    fields::SOURCE[15][fields::BITS] as u8,
-    fields::SOURCE[16][fields::BITS] as u8,
-    fields::SOURCE[17][fields::BITS] as u8,
     // 4: withdraw source
     KIND_BITS,
     SOURCE_SLOT_BITS,
@@ -69,6 +71,28 @@ const WIDTHS: [u8; 52] = [
     // 6: place a source by its daily figure
     KIND_BITS,
     SOURCE_SLOT_BITS,
+    fields::PIECE[0][fields::BITS] as u8,
+    fields::PIECE[1][fields::BITS] as u8,
+    fields::PIECE[2][fields::BITS] as u8,
+    fields::SOURCE[0][fields::BITS] as u8,
+    fields::SOURCE[1][fields::BITS] as u8,
+    fields::SOURCE[2][fields::BITS] as u8,
+    fields::SOURCE[3][fields::BITS] as u8,
+    fields::SOURCE[4][fields::BITS] as u8,
+    fields::SOURCE[5][fields::BITS] as u8,
+    fields::SOURCE[6][fields::BITS] as u8,
+    fields::SOURCE[7][fields::BITS] as u8,
+    fields::SOURCE[8][fields::BITS] as u8,
+    daily::CLASS_BITS,
+    daily::DTV_BITS,
+    2,
+    // 7: place a source by its ends
+    KIND_BITS,
+    SOURCE_SLOT_BITS,
+    fields::ENDS[0][fields::BITS] as u8,
+    fields::ENDS[1][fields::BITS] as u8,
+    fields::ENDS[2][fields::BITS] as u8,
+    fields::ENDS[3][fields::BITS] as u8,
     fields::SOURCE[0][fields::BITS] as u8,
     fields::SOURCE[1][fields::BITS] as u8,
     fields::SOURCE[2][fields::BITS] as u8,
@@ -81,24 +105,26 @@ const WIDTHS: [u8; 52] = [
     fields::SOURCE[9][fields::BITS] as u8,
     fields::SOURCE[10][fields::BITS] as u8,
     fields::SOURCE[11][fields::BITS] as u8,
-    daily::CLASS_BITS,
-    daily::DTV_BITS,
-    2,
+    fields::SOURCE[12][fields::BITS] as u8,
+    fields::SOURCE[13][fields::BITS] as u8,
+    fields::SOURCE[14][fields::BITS] as u8,
+    1,
 ];
 
 // How many widths a kind has. Here and below the first row is for no kind. (Bytes: a table is laid out anew at every use.)
-const COUNT: [u8; 7] = [
+const COUNT: [u8; 8] = [
     0,
     3 + fields::RECEIVER_ROWS as u8,
     3,
-    2 + fields::SOURCE_ROWS as u8,
+    2 + fields::PIECE_ROWS as u8 + fields::SOURCE_ROWS as u8,
     3,
     3,
-    3 + FIGURES as u8,
+    3 + fields::PIECE_ROWS as u8 + FIGURES as u8,
+    3 + fields::ENDS_ROWS as u8 + fields::SOURCE_ROWS as u8,
 ];
 
 // Where its widths start among them.
-const START: [u8; 7] = [
+const START: [u8; 8] = [
     0,
     0,
     COUNT[1],
@@ -106,21 +132,23 @@ const START: [u8; 7] = [
     COUNT[1] + COUNT[2] + COUNT[3],
     COUNT[1] + COUNT[2] + COUNT[3] + COUNT[4],
     COUNT[1] + COUNT[2] + COUNT[3] + COUNT[4] + COUNT[5],
+    COUNT[1] + COUNT[2] + COUNT[3] + COUNT[4] + COUNT[5] + COUNT[6],
 ];
 
 // How many fields.
-const FIELDS: [u8; 7] = [
+const FIELDS: [u8; 8] = [
     0,
     1 + fields::RECEIVER_ROWS as u8,
     1,
-    1 + fields::SOURCE_ROWS as u8,
+    1 + fields::PIECE_ROWS as u8 + fields::SOURCE_ROWS as u8,
     1,
     1,
-    1 + FIGURES as u8,
+    1 + fields::PIECE_ROWS as u8 + FIGURES as u8,
+    1 + fields::ENDS_ROWS as u8 + fields::SOURCE_ROWS as u8,
 ];
 
 // How many bytes.
-const BYTES: [u8; 7] = [0, 9, 2, 30, 2, 2, 20];
+const BYTES: [u8; 8] = [0, 9, 2, 30, 2, 2, 20, 34];
 
 // The last slots that their bits can name, however many slots a book has.
 const LAST_NAMED_SOURCE: u16 = (1 << SOURCE_SLOT_BITS) - 1;
@@ -129,6 +157,11 @@ const LAST_NAMED_RECEIVER: u16 = (1 << RECEIVER_SLOT_BITS) - 1;
 
 // Where the fields after the slot start among the numbers of a record.
 const FIRST: usize = 2;
+
+// And where those after a piece, and after two ends.
+const AFTER_PIECE: usize = FIRST + fields::PIECE_ROWS;
+
+const AFTER_ENDS: usize = FIRST + fields::ENDS_ROWS;
 
 // How many a road has with its daily figure.
 const FIGURES: usize = fields::ROAD_ROWS + daily::DAILY_ROWS;
@@ -142,9 +175,9 @@ pub struct Shape {
 
 // The row of a kind.
 fn row(kind: usize) -> usize
-    ensures { λ r. ⌜ (kindAt r ≡ kindAt kind) × (r < 7) ⌝ }
+    ensures { λ r. ⌜ (kindAt r ≡ kindAt kind) × (r < 8) ⌝ }
 {
-    if kind < 7 {
+    if kind < 8 {
         return kind;
     }
     0
@@ -173,7 +206,7 @@ pub fn shape_of(kind: usize) -> Shape
 }
 
 // The widths of all kinds, to be lent to `layout_of`.
-pub fn widths() -> [u8; 52]
+pub fn widths() -> [u8; 74]
     ensures { λ r. ⌜ r ≡ allWidths ⌝ }
 {
     WIDTHS
@@ -204,9 +237,11 @@ pub fn call(kind: usize, v: &[u64]) -> Request
         3 => Request::PlaceSource(slot, Counts::ByPeriod),
         4 => Request::WithdrawSource(slot),
         6 => {
-            let d = daily::daily_of(&v[FIRST..FIRST + FIGURES]);
-            Request::PlaceSource(slot, Counts::ByDay(d))
+            let p = fields::piece_of(v, FIRST);
+            let d = daily::daily_of(&v[AFTER_PIECE..AFTER_PIECE + FIGURES]);
+            Request::PlaceSource(slot, Counts::ByDay(p, d))
         }
+        7 => Request::PlaceSource(slot, Counts::ByPeriod),
         _ => Request::Ask(slot),
     }
 }
@@ -218,7 +253,7 @@ fn judge_counts(steps: &[u32; 1000], counts: Counts, source: Source) -> Verdict
 {
     match counts {
         Counts::ByPeriod => judge::judge_source(steps, source),
-        Counts::ByDay(d) => daily::judge(steps, d, source),
+        Counts::ByDay(p, d) => daily::judge(steps, Course::Uncut(p), d, source),
     }
 }
 
@@ -248,24 +283,35 @@ pub fn verdict(steps: &[u32; 1000], call: Request, source: Source) -> Verdict
     }
 }
 
-// The kind of a record that places a source.
-fn counts_kind(counts: Counts) -> usize
-    ensures { λ r. ⌜ r ≡ countsKind counts ⌝ }
+// The kind of a record that places a source with its counts by period.
+fn course_kind(course: Course) -> usize
+    ensures { λ r. ⌜ r ≡ courseKind course ⌝ }
 {
+    match course {
+        Course::Uncut(_) => 3,
+        Course::Between(_) => 7,
+    }
+}
+
+// And with its counts however they are told.
+fn counts_kind(counts: Counts, source: Source) -> usize
+    ensures { λ r. ⌜ r ≡ countsKind counts source ⌝ }
+{
+    let course = source.course;
     match counts {
-        Counts::ByPeriod => 3,
-        Counts::ByDay(_) => 6,
+        Counts::ByPeriod => course_kind(course),
+        Counts::ByDay(_, _) => 6,
     }
 }
 
 // The kind of a call.
-pub fn number(call: Request) -> usize
-    ensures { λ r. ⌜ r ≡ kindNumber call ⌝ }
+pub fn number(call: Request, source: Source) -> usize
+    ensures { λ r. ⌜ r ≡ kindNumber call source ⌝ }
 {
     match call {
         Request::PlaceReceiver(_, _) => 1,
         Request::WithdrawReceiver(_) => 2,
-        Request::PlaceSource(_, counts) => counts_kind(counts),
+        Request::PlaceSource(_, counts) => counts_kind(counts, source),
         Request::WithdrawSource(_) => 4,
         Request::Ask(_) => 5,
     }
@@ -276,7 +322,35 @@ pub fn blank() -> Source
     ensures { λ r. ⌜ r ≡ kinds.blank ⌝ }
 {
     let none = [0u64; fields::SOURCE_ROWS];
-    fields::source_of(&none, 0)
+    let course = Course::Uncut(fields::piece_of(&none, 0));
+    fields::source_of(course, &none, 0)
+}
+
+// The source of kind 3, by its middle and its length.
+fn uncut_source(v: &[u64]) -> Source
+    requires { ⌜ Within (layoutOf 3) (now v) ⌝ }
+    ensures { λ r. ⌜ r ≡ sourceIn 3 (now (v .entry)) ⌝ }
+{
+    let course = Course::Uncut(fields::piece_of(v, FIRST));
+    fields::source_of(course, v, AFTER_PIECE)
+}
+
+// The one that kind 6 stands for.
+fn daily_source(v: &[u64]) -> Source
+    requires { ⌜ Within (layoutOf 6) (now v) ⌝ }
+    ensures { λ r. ⌜ r ≡ sourceIn 6 (now (v .entry)) ⌝ }
+{
+    let course = Course::Uncut(fields::piece_of(v, FIRST));
+    daily::source_of(course, &v[AFTER_PIECE..AFTER_PIECE + FIGURES])
+}
+
+// The source of kind 7, by its ends.
+fn ends_source(v: &[u64]) -> Source
+    requires { ⌜ Within (layoutOf 7) (now v) ⌝ }
+    ensures { λ r. ⌜ r ≡ sourceIn 7 (now (v .entry)) ⌝ }
+{
+    let course = Course::Between(fields::ends_of(v, FIRST));
+    fields::source_of(course, v, AFTER_ENDS)
 }
 
 // The source beside the call that the fields of a kind ask for.
@@ -284,13 +358,12 @@ pub fn source(kind: usize, v: &[u64]) -> Source
     requires { ⌜ Within (layoutOf kind) (now v) ⌝ }
     ensures { λ r. ⌜ r ≡ sourceIn kind (now (v .entry)) ⌝ }
 {
-    if kind == 3 {
-        return fields::source_of(v, FIRST);
+    match kind {
+        3 => uncut_source(v),
+        6 => daily_source(v),
+        7 => ends_source(v),
+        _ => blank(),
     }
-    if kind == 6 {
-        return daily::source_of(&v[FIRST..FIRST + FIGURES]);
-    }
-    blank()
 }
 
 // A kind, a slot and the fields after it, with zeros after them.
@@ -309,18 +382,44 @@ fn join(kind: u64, slot: u16, fields: &[u64]) -> [u64; 25]
     v
 }
 
-// The kind, the fields and the leftover bits of a source that is placed, with zeros after them.
+// A kind, a slot, a course and the fields after it, with zeros after them.
+fn join_course(kind: u64, slot: u16, course: &[u64], fields: &[u64]) -> [u64; 25]
+    requires { ⌜ length (now course) + length (now fields) ≤ 23 ⌝ }
+    ensures { λ r. ⌜ r ≡ filled (kind ∷ slot ∷ (now (course .entry) ++ now (fields .entry))) ⌝ }
+{
+    let mut v = join(kind, slot, course);
+    layout::lay(fields, &mut v, FIRST + course.len());
+    v
+}
+
+// The kind, the fields and the leftover bits of a source that is placed on a course, with zeros after them.
+fn placed_fields(slot: u16, course: Course, source: Source) -> [u64; 25]
+    ensures { λ r. ⌜ r ≡ filled (placedFields course slot (sourceFields source)) ⌝ }
+{
+    let fields = fields::source_values(source);
+    match course {
+        Course::Uncut(p) => {
+            let values = fields::piece_values(p);
+            join_course(3, slot, &values, &fields)
+        }
+        Course::Between(e) => {
+            let values = fields::ends_values(e);
+            join_course(7, slot, &values, &fields)
+        }
+    }
+}
+
+// And of one however its traffic is told.
 fn source_fields(slot: u16, counts: Counts, source: Source) -> [u64; 25]
     ensures { λ r. ⌜ r ≡ filled (fieldsOf (PlaceSource slot counts) source) ⌝ }
 {
+    let course = source.course;
     match counts {
-        Counts::ByPeriod => {
-            let fields = fields::source_values(source);
-            join(3, slot, &fields)
-        }
-        Counts::ByDay(d) => {
+        Counts::ByPeriod => placed_fields(slot, course, source),
+        Counts::ByDay(p, d) => {
+            let values = fields::piece_values(p);
             let fields = daily::values(d, source);
-            join(6, slot, &fields[..FIGURES])
+            join_course(6, slot, &values, &fields[..FIGURES])
         }
     }
 }

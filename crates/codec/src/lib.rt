@@ -3,6 +3,7 @@
 mod kinds;
 
 use answer::Refusal;
+use course::Piece;
 use daily::Daily;
 use road::Receiver;
 use road::Source;
@@ -17,10 +18,11 @@ ghost use Rattle.codec.specs.Kinds.{layoutOf};
 ghost use Rattle.codec.specs.Inner.{firstOf};
 ghost use Rattle.codec.specs.Record.{kindOf, extentOf, refused, heard, readOf, writeOf};
 
-// How the traffic of a source is told: by counts for each period, which the source has, or by its daily figure.
+// How the traffic of a source is told: by counts for each period, which the source has, or by its daily figure, as it can be for a piece
+// that is not cut.
 pub enum Counts {
     ByPeriod,
-    ByDay(Daily),
+    ByDay(Piece, Daily),
 }
 
 // What a record asks for; the number is the slot. The road of PlaceSource stands beside the call, since it holds an array.
@@ -151,7 +153,7 @@ pub fn write(steps: &[u32; 1000], call: Request, source: Source, out: &mut [u8])
     match kinds::verdict(steps, call, source) {
         Verdict::Refused(why) => Written::Refused(why),
         Verdict::Allowed => {
-            let kind = kinds::number(call);
+            let kind = kinds::number(call, source);
             let bytes = kinds::shape_of(kind).bytes;
             if out.len() < bytes {
                 return Written::Refused(Refusal::CutShort);

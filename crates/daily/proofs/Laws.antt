@@ -12,6 +12,7 @@ use Rattle.layout.specs.Bounds.{firstOutside}
 use Rattle.layout.proofs.Packing.{within-length, within-at, within-front, within-append}
 use Rattle.layout.proofs.Bounds.{inside-at, all-inside, inside-within}
 use Rattle.answer.specs.declared.Refusal.the-variants.{Field}
+use Rattle.course.specs.declared.Course.{Course}
 use Rattle.road.specs.declared.Source.{Source}
 use Rattle.road.specs.declared.Verdict.{Verdict}
 use Rattle.road.specs.declared.Verdict.the-variants.{Allowed, Refused}
@@ -110,10 +111,10 @@ inside-figured d h =
 
 -- ---- what is promised
 
-road-named : (d : Daily) (s : Source) → outsideBy roadTable s < length roadTable
-    → dailyVerdict d s ≡ courseVerdict (s .course) (Refused (Field (numberAt roadTable (outsideBy roadTable s))))
+road-named : (c : Course) (d : Daily) (s : Source) → outsideBy roadTable s < length roadTable
+    → dailyVerdict c d s ≡ courseVerdict c (Refused (Field (numberAt roadTable (outsideBy roadTable s))))
 unfolding dailyVerdict
-road-named d s h = ap (courseVerdict (s .course)) (sym (outside roadTable s (unlessOutside dailyTable d (restVerdict (counted d s))) (outsideBy roadTable s) refl h))
+road-named c d s h = ap (courseVerdict c) (sym (outside roadTable s (unlessOutside dailyTable d (restVerdict (counted c d s))) (outsideBy roadTable s) refl h))
 
 figured-inside : (d : Daily) → Figured d → length dailyTable ≤ outsideBy dailyTable d
 figured-inside d f =
@@ -124,15 +125,15 @@ figured-inside d f =
     b (suc zero) l = f .1
     b (suc (suc i)) l = absurd (omega arith)
 
-pub same-verdict : (d : Daily) (s : Source) → Figured d → dailyVerdict d s ≡ sourceVerdict (counted d s)
+pub same-verdict : (c : Course) (d : Daily) (s : Source) → Figured d → dailyVerdict c d s ≡ sourceVerdict (counted c d s)
 unfolding dailyVerdict sourceVerdict
-same-verdict d s f =
-    ap (courseVerdict (s .course))
-    (ap (unlessOutside roadTable s) (sym (inside dailyTable d (restVerdict (counted d s)) (outsideBy dailyTable d) refl (figured-inside d f)))
-    ∙ road-first (counted d s))
+same-verdict c d s f =
+    ap (courseVerdict c)
+    (ap (unlessOutside roadTable s) (sym (inside dailyTable d (restVerdict (counted c d s)) (outsideBy dailyTable d) refl (figured-inside d f)))
+    ∙ road-first (counted c d s))
 
-pub counts-allowed : (d : Daily) (s : Source) → Figured d → outsideBy trafficTable (counted d s) ≡ length trafficTable
-counts-allowed d s f =
+pub counts-allowed : (c : Course) (d : Daily) (s : Source) → Figured d → outsideBy trafficTable (counted c d s) ≡ length trafficTable
+counts-allowed c d s f =
     all-inside (leastBy trafficTable s) (mostBy trafficTable s) (countsOf d) refl refl (counts-most d (f .0) 10000000 (omega (arith, f .1 .1)))
 
 pub promises : Promises
@@ -141,18 +142,18 @@ promises = record { road-named = road-named; same-verdict = same-verdict; counts
 -- ---- what else a verdict tells
 
 -- an allowed road with its daily figure fits a record
-pub daily-within : (d : Daily) (s : Source) → dailyVerdict d s ≡ Allowed
+pub daily-within : (c : Course) (d : Daily) (s : Source) → dailyVerdict c d s ≡ Allowed
     → Within dailyBits (dailyFields d s)
 unfolding dailyVerdict
-daily-within d s e =
-    let v : Verdict = restVerdict (counted d s) in
-    let a = fit-course (s .course) (unlessOutside roadTable s (unlessOutside dailyTable d v)) e .1 in
+daily-within c d s e =
+    let v : Verdict = restVerdict (counted c d s) in
+    let a = fit-course c (unlessOutside roadTable s (unlessOutside dailyTable d v)) e .1 in
     let b = past dailyTable d v (past roadTable s (unlessOutside dailyTable d v) a .1) in
     let f = inside-figured d (ltb-false (outsideBy dailyTable d) (length dailyTable) (b .0)) in
-    let w = within-front (bitsBy roadTable) (bitsBy trafficTable) (valuesBy roadTable s ++ countsOf d) (source-within (counted d s) (b .1)) in
+    let w = within-front (bitsBy roadTable) (bitsBy trafficTable) (valuesBy roadTable s ++ countsOf d) (source-within (counted c d s) (b .1)) in
     within-append (bitsBy roadTable) (valuesBy roadTable s) (bitsBy dailyTable) (valuesBy dailyTable d) w (omega (arith, f .0), (omega (arith, f .1 .1), tt))
 
 -- it is refused 5, 6 or 7 and no other
-pub daily-by : (d : Daily) (s : Source) → ByFields (dailyVerdict d s)
+pub daily-by : (c : Course) (d : Daily) (s : Source) → ByFields (dailyVerdict c d s)
 unfolding dailyVerdict
-daily-by d s = course-by (s .course) _ (outside-by roadTable s _ (outside-by dailyTable d _ (rest-by (counted d s))))
+daily-by c d s = course-by c _ (outside-by roadTable s _ (outside-by dailyTable d _ (rest-by (counted c d s))))

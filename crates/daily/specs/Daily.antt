@@ -5,6 +5,7 @@ use mathlib.Core.Path.{_≡_}
 use mathlib.Core.List.{List, [], _∷_, _++_}
 use lib.ListN.{length, getD}
 use Rattle.answer.specs.declared.Refusal.the-variants.{Field}
+use Rattle.course.specs.declared.Course.{Course}
 use Rattle.road.specs.declared.Source.{Source}
 use Rattle.road.specs.declared.Verdict.{Verdict}
 use Rattle.road.specs.declared.Verdict.the-variants.{Refused}
@@ -38,9 +39,9 @@ countsBy dtv r =
 abbrev pub countsOf : Daily → List ℕ
 countsOf d = countsBy (d .dtv) (getD tableTwo (d .class) [])
 
--- the source that a road with its daily figure stands for; what traffic s has is not looked at
-abbrev pub counted : Daily → Source → Source
-counted d s = sourceOf (s .course) (valuesBy roadTable s ++ countsOf d)
+-- the source on a course that a road with its daily figure stands for; what course and traffic s has is not looked at
+abbrev pub counted : Course → Daily → Source → Source
+counted c d s = sourceOf c (valuesBy roadTable s ++ countsOf d)
 
 -- ---- the two fields, which follow those of the road
 
@@ -72,8 +73,8 @@ dailyOf v = record { class = getD v (length roadTable) 0; dtv = getD v (suc (len
 -- ---- the verdict: the course and the fields of the road, then the class and the daily figure, then what is judged of the source that
 -- they stand for
 
-unfoldable pub dailyVerdict : Daily → Source → Verdict
-dailyVerdict d s = courseVerdict (s .course) (unlessOutside roadTable s (unlessOutside dailyTable d (restVerdict (counted d s))))
+unfoldable pub dailyVerdict : Course → Daily → Source → Verdict
+dailyVerdict c d s = courseVerdict c (unlessOutside roadTable s (unlessOutside dailyTable d (restVerdict (counted c d s))))
 
 -- ---- what is promised
 
@@ -83,9 +84,9 @@ Figured d = (d .class ≤ lastClass) × ((1 ≤ d .dtv) × (d .dtv ≤ busiest))
 
 pub record Promises : Type 0 where
   -- on a course that is allowed, a field of the road that is not is named, whatever class and vehicles a day are
-  pub road-named : (d : Daily) (s : Source) → outsideBy roadTable s < length roadTable
-      → dailyVerdict d s ≡ courseVerdict (s .course) (Refused (Field (numberAt roadTable (outsideBy roadTable s))))
+  pub road-named : (c : Course) (d : Daily) (s : Source) → outsideBy roadTable s < length roadTable
+      → dailyVerdict c d s ≡ courseVerdict c (Refused (Field (numberAt roadTable (outsideBy roadTable s))))
   -- where these two are allowed, the road is judged as the source that they stand for
-  pub same-verdict : (d : Daily) (s : Source) → Figured d → dailyVerdict d s ≡ sourceVerdict (counted d s)
+  pub same-verdict : (c : Course) (d : Daily) (s : Source) → Figured d → dailyVerdict c d s ≡ sourceVerdict (counted c d s)
   -- whose counts are always allowed: refusal 5 names the class by 14 and the vehicles a day by 15, and no count
-  pub counts-allowed : (d : Daily) (s : Source) → Figured d → outsideBy trafficTable (counted d s) ≡ length trafficTable
+  pub counts-allowed : (c : Course) (d : Daily) (s : Source) → Figured d → outsideBy trafficTable (counted c d s) ≡ length trafficTable

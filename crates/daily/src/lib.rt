@@ -73,18 +73,29 @@ fn period(dtv: u32, m: u32, p: u32) -> Traffic
     }
 }
 
-// The source that a road with its daily figure stands for. What traffic s has is not looked at.
-pub fn counted(d: Daily, s: Source) -> Source
+// The source on a course that a road with its daily figure stands for. What course and traffic s has is not looked at.
+pub fn counted(course: Course, d: Daily, s: Source) -> Source
     requires { ⌜ (d .class ≤ spec.lastClass) × (d .dtv < 2 ^ 18) ⌝ }
-    ensures { λ r. ⌜ r ≡ spec.counted d s ⌝ }
+    ensures { λ r. ⌜ r ≡ spec.counted course d s ⌝ }
 {
     let row = row_of(d.class);
     let day = period(d.dtv, row[0], row[1]);
     let evening = period(d.dtv, row[2], row[3]);
     let night = period(d.dtv, row[4], row[5]);
-    let mut t = s;
-    t.traffic = [day, evening, night];
-    t
+    let traffic = [day, evening, night];
+    Source {
+        course,
+        lanes: s.lanes,
+        car: s.car,
+        truck: s.truck,
+        surface: s.surface,
+        gradient: s.gradient,
+        reflection: s.reflection,
+        walls: s.walls,
+        height: s.height,
+        spacing: s.spacing,
+        traffic,
+    }
 }
 
 // Class and vehicles a day, from the values of a road and of these.
@@ -100,9 +111,9 @@ pub fn daily_of(v: &[u64]) -> Daily
 // The source on a course that they stand for, from the same values.
 pub fn source_of(course: Course, v: &[u64]) -> Source
     requires { ⌜ Within spec.dailyBits (now v) ⌝ }
-    ensures { λ r. ⌜ r ≡ spec.counted (spec.dailyOf (now (v .entry))) (sourceOf course (now (v .entry))) ⌝ }
+    ensures { λ r. ⌜ r ≡ spec.counted course (spec.dailyOf (now (v .entry))) (sourceOf course (now (v .entry))) ⌝ }
 {
-    counted(daily_of(v), fields::road_of(course, v))
+    counted(course, daily_of(v), fields::road_of(course, v))
 }
 
 // The values of a road and of these. What follows them says nothing.
@@ -116,9 +127,9 @@ pub fn values(d: Daily, s: Source) -> [u64; fields::SOURCE_ROWS]
 }
 
 // Whether class and vehicles a day, and then the source that they stand for, but for its course, are allowed.
-fn judge_daily(steps: &[u32; 1000], d: Daily, s: Source) -> Verdict
+fn judge_daily(steps: &[u32; 1000], course: Course, d: Daily, s: Source) -> Verdict
     requires { ⌜ now steps ≡ table ⌝ }
-    ensures { λ r. ⌜ r ≡ unlessOutside spec.dailyTable d (restVerdict (spec.counted d s)) ⌝ }
+    ensures { λ r. ⌜ r ≡ unlessOutside spec.dailyTable d (restVerdict (spec.counted course d s)) ⌝ }
 {
     let values = [d.class as u64, d.dtv as u64];
     let least = LEAST;
@@ -128,14 +139,16 @@ fn judge_daily(steps: &[u32; 1000], d: Daily, s: Source) -> Verdict
         let number = FIRST_NUMBER + at as u16;
         return Verdict::Refused(Refusal::Field(number));
     }
-    judge::judge_rest(steps, counted(d, s))
+    judge::judge_rest(steps, counted(course, d, s))
 }
 
-// Whether a road with its daily figure is allowed.
-pub fn judge(steps: &[u32; 1000], d: Daily, s: Source) -> Verdict
+// Whether a road on a course with its daily figure is allowed.
+pub fn judge(steps: &[u32; 1000], course: Course, d: Daily, s: Source) -> Verdict
     requires { ⌜ now steps ≡ table ⌝ }
-    ensures { λ r. ⌜ r ≡ spec.dailyVerdict d s ⌝ }
+    ensures { λ r. ⌜ r ≡ spec.dailyVerdict course d s ⌝ }
 {
-    let course = s.course;
-    judge::judge_course(course, judge::judge_road(s, judge_daily(steps, d, s)))
+    judge::judge_course(
+        course,
+        judge::judge_road(s, judge_daily(steps, course, d, s)),
+    )
 }

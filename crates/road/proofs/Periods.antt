@@ -9,6 +9,7 @@ use mir.Val.{Val}
 use denote.Laws.{Is}
 use denote.Struct.Declared.{row}
 use Rattle.road.proofs.Source.{the-type}
+use Rattle.course.specs.declared.Course.{Course}
 use Rattle.road.specs.declared.Traffic.{Traffic}
 use Rattle.road.specs.declared.Source.{Source}
 use Rattle.road.specs.Term.{none}
@@ -20,11 +21,11 @@ three (a ∷ b ∷ []) h = absurd (omega arith)
 three (a ∷ b ∷ d ∷ []) h = refl
 three (a ∷ b ∷ d ∷ e ∷ l) h = absurd (omega arith)
 
--- a source with another traffic
-abbrev pub with : Source → List Traffic → Source
-with s t =
+-- a source on another course, with another traffic
+abbrev pub on : Course → Source → List Traffic → Source
+on c s t =
     record {
-      course = s .course;
+      course = c;
       lanes = s .lanes;
       car = s .car;
       truck = s .truck;
@@ -36,6 +37,9 @@ with s t =
       spacing = s .spacing;
       traffic = t;
     }
+
+abbrev pub with : Source → List Traffic → Source
+with s t = on (s .course) s t
 
 pub periods-again : (s : Source) → length (s .traffic) ≡ 3 → with s (getD (s .traffic) 0 none ∷ getD (s .traffic) 1 none ∷ getD (s .traffic) 2 none ∷ []) ≡ s
 periods-again s h = ap (with s) (three (s .traffic) h)

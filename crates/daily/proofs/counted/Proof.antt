@@ -5,7 +5,7 @@ use mathlib.Core.Path.{ap, _∙_}
 use mathlib.Core.List.{List, [], _∷_, _++_}
 use native.Mathlib.Omega.{arith}
 use Rattle.road.specs.Fields.{roadTable, sourceOf, valuesBy}
-use Rattle.road.proofs.Periods.{with}
+use Rattle.road.proofs.Periods.{on}
 use Rattle.daily.specs.Daily.{countsBy}
 use Rattle.daily.proofs.Laws.{small-row}
 use borrow.Author.Needs.{needs}
@@ -53,12 +53,12 @@ period-requires-3 c κs =
 
 returns : tie.Need-returns
 returns c =
-    let night = c .before in
+    let night = c in
     let evening = night .before in
     let day = evening .before in
     let a = day .before .before .args in
-    (λ i. with (a .s) (day .period .ensures i ∷ evening .period2 .ensures i ∷ night .period3 .ensures i ∷ []))
-    ∙ ap (λ (r : List ℕ). sourceOf (a .s .course) (valuesBy roadTable (a .s) ++ countsBy (a .d .dtv) r)) (day .before .row-of .ensures)
+    (λ i. on (a .course) (a .s) (day .period .ensures i ∷ evening .period2 .ensures i ∷ night .period3 .ensures i ∷ []))
+    ∙ ap (λ (r : List ℕ). sourceOf (a .course) (valuesBy roadTable (a .s) ++ countsBy (a .d .dtv) r)) (day .before .row-of .ensures)
 
 pub counted-spec : {M : Type 1} → statement M
 counted-spec =

@@ -21,8 +21,8 @@ returns : tie.Need-returns
 unfolding dailyVerdict
 returns c =
     let d = c .before .before in
-    let s = d .before .args .s in
-    c .judge-course .ensures ∙ ap (courseVerdict (s .course)) (c .before .judge-road .ensures ∙ ap (unlessOutside roadTable s) (d .judge-daily .ensures))
+    let a = d .before .args in
+    c .judge-course .ensures ∙ ap (courseVerdict (a .course)) (c .before .judge-road .ensures ∙ ap (unlessOutside roadTable (a .s)) (d .judge-daily .ensures))
 
 pub judge-spec : {M : Type 1} → statement M
 judge-spec = tie.close (tie.spec judge-daily-requires judge-road-requires judge-course-requires returns)

@@ -13,11 +13,11 @@ use borrow.Author.Needs.{needs}
 use Rattle.daily.proofs.judge_daily.Statement.{statement}
 use Rattle.daily.proofs.judge_daily.Tie as tie
 
-cast-t9 : tie.Need-cast-t9
-cast-t9 c = search needs
-
 cast-t10 : tie.Need-cast-t10
 cast-t10 c = search needs
+
+cast-t11 : tie.Need-cast-t11
+cast-t11 c = search needs
 
 slice-aggregate-first-outside : tie.Need-slice-aggregate-first-outside
 slice-aggregate-first-outside c = search needs
@@ -44,7 +44,7 @@ returns c =
     let at = f .first-outside .result in
     let h = c .if1 .taken in
     ap (λ (n : ℕ). Refused (Field n)) (number-at at h)
-    ∙ outside dailyTable (a .d) (restVerdict (counted (a .d) (a .s))) at (f .first-outside .ensures) h
+    ∙ outside dailyTable (a .d) (restVerdict (counted (a .course) (a .d) (a .s))) at (f .first-outside .ensures) h
 
 counted-requires : tie.Need-counted-requires
 counted-requires c κs =
@@ -62,14 +62,14 @@ returns-2 c =
     let a = f .before .before .before .before .before .before .args in
     c .judge-rest .ensures
     ∙ ap restVerdict (c .before .counted .ensures)
-    ∙ inside dailyTable (a .d) (restVerdict (counted (a .d) (a .s))) (f .first-outside .result) (f .first-outside .ensures) (c .before .before .if1 .left)
+    ∙ inside dailyTable (a .d) (restVerdict (counted (a .course) (a .d) (a .s))) (f .first-outside .result) (f .first-outside .ensures) (c .before .before .if1 .left)
 
 pub judge-daily-spec : {M : Type 1} → statement M
 judge-daily-spec =
     tie.close
     (tie.spec
-    cast-t9
     cast-t10
+    cast-t11
     slice-aggregate-first-outside
     slice-aggregate-first-outside-2
     slice-aggregate-first-outside-3

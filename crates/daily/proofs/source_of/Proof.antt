@@ -28,7 +28,7 @@ counted-requires c κs =
     )
 
 returns : tie.Need-returns
-returns c = c .counted .ensures ∙ (λ i. counted (c .before .before .daily-of .ensures i) (c .before .road-of .ensures i))
+returns c = c .counted .ensures ∙ (λ i. counted (c .before .before .before .before .args .course) (c .before .before .daily-of .ensures i) (c .before .road-of .ensures i))
 
 pub source-of-spec : {M : Type 1} → statement M
 source-of-spec = tie.close (tie.spec daily-of-requires road-of-requires counted-requires returns)

@@ -1,20 +1,22 @@
 -- `call` names the call of each kind; its slot fits sixteen bits.
 -- Assumes nothing.
 use Prim.Native.Nat.{ℕ}
-use mathlib.Core.Path.{refl, sym, ap, _∙_, subst}
-use mathlib.Core.List.{List, [], _∷_}
+use mathlib.Core.Path.{refl, sym, ap, ap₂, _∙_, subst}
+use mathlib.Core.List.{List, [], _∷_, _++_}
 use native.Mathlib.Omega.{arith}
 use denote.Ref.{now}
 use lib.ListN.{length, drop}
+use lib.Seq.{drop-drop}
+use Rattle.course.specs.declared.Piece.{Piece}
 use Rattle.layout.specs.Layout.{Within}
 use Rattle.road.specs.declared.Receiver.{Receiver}
-use Rattle.road.specs.Fields.{receiverTable}
+use Rattle.road.specs.Fields.{pieceTable, receiverTable, bitsBy}
 use Rattle.road.proofs.Rows.{upto-take}
 use Rattle.daily.specs.declared.Daily.{Daily}
 use Rattle.daily.specs.Daily.{dailyBits, dailyOf}
 use Rattle.codec.specs.declared.Counts.the-variants.{ByDay}
 use Rattle.codec.specs.declared.Request.the-variants.{PlaceReceiver, PlaceSource}
-use Rattle.codec.specs.Kinds.{receiverSlotBits, sourceSlotBits, at, kindAt, layoutOf, callIn}
+use Rattle.codec.specs.Kinds.{kindBits, receiverSlotBits, sourceSlotBits, at, kindAt, layoutOf, callIn}
 use Rattle.codec.proofs.Laws.{slot-there, slot-fits, part-there, part-fits, table-fits, ask-else}
 use borrow.Author.Needs.{needs}
 use Rattle.codec.proofs.kinds.call.Statement.{statement}
@@ -35,7 +37,14 @@ unfolding kindAt
 receiver-of-requires c κs =
     let z = c .before .before .before in
     let v = now (z .args .v) in
-    table-fits receiverTable receiverSlotBits (5 ∷ []) v refl (subst (λ (k : ℕ). Within (layoutOf k) v) (c .match .keys1) (z .pre .1))
+    table-fits receiverTable (kindBits ∷ receiverSlotBits ∷ []) (5 ∷ []) v refl (subst (λ (k : ℕ). Within (layoutOf k) v) (c .match .keys1) (z .pre .1))
+
+piece-of-requires : tie.Need-piece-of-requires
+unfolding kindAt
+piece-of-requires c κs =
+    let z = c .before .before .before in
+    let v = now (z .args .v) in
+    table-fits pieceTable (kindBits ∷ sourceSlotBits ∷ []) (dailyBits ++ (2 ∷ [])) v refl (subst (λ (k : ℕ). Within (layoutOf k) v) (c .match .keys5) (z .pre .1))
 
 add-daily-of : tie.Need-add-daily-of
 add-daily-of c = search needs
@@ -49,16 +58,16 @@ part-daily-of-start c = search needs
 part-daily-of-end : tie.Need-part-daily-of-end
 unfolding kindAt
 part-daily-of-end c =
-    let z = c .before .before .before in
+    let z = c .before .before .before .before in
     let v = now (z .args .v) in
-    part-there sourceSlotBits dailyBits (2 ∷ []) v (subst (λ (k : ℕ). Within (layoutOf k) v) (c .match .keys5) (z .pre .1))
+    part-there (kindBits ∷ sourceSlotBits ∷ bitsBy pieceTable) dailyBits (2 ∷ []) v (subst (λ (k : ℕ). Within (layoutOf k) v) (c .before .match .keys5) (z .pre .1))
 
 daily-of-requires : tie.Need-daily-of-requires
 unfolding kindAt
 daily-of-requires c κs =
-    let z = c .before .before .before .before in
+    let z = c .before .before .before .before .before in
     let v = now (z .args .v) in
-    part-fits sourceSlotBits dailyBits (2 ∷ []) v (subst (λ (k : ℕ). Within (layoutOf k) v) (c .before .match .keys5) (z .pre .1))
+    part-fits (kindBits ∷ sourceSlotBits ∷ bitsBy pieceTable) dailyBits (2 ∷ []) v (subst (λ (k : ℕ). Within (layoutOf k) v) (c .before .before .match .keys5) (z .pre .1))
 
 returns : tie.Need-returns
 unfolding kindAt
@@ -81,16 +90,21 @@ returns-4 c = ap (λ (k : ℕ). callIn k (now (c .before .before .before .args .
 returns-5 : tie.Need-returns-5
 unfolding kindAt
 returns-5 c =
-    let v = now (c .before .before .before .before .before .args .v) in
-    ap (λ (d : Daily). PlaceSource (at v 1) (ByDay d)) (c .daily-of .ensures)
-    ∙ ap (λ (w : List ℕ). PlaceSource (at v 1) (ByDay (dailyOf w))) (upto-take (length dailyBits) (drop 2 v))
-    ∙ ap (λ (k : ℕ). callIn k v) (sym (c .before .before .match .keys5))
+    let p = c .before .before .piece-of in
+    let v = now (c .before .before .before .before .before .before .args .v) in
+    ap (λ (d : Daily). PlaceSource (at v 1) (ByDay (p .result) d)) (c .daily-of .ensures ∙ ap dailyOf (upto-take (length dailyBits) (drop 5 v)))
+    ∙ ap₂ (λ (x : Piece) (w : List ℕ). PlaceSource (at v 1) (ByDay x (dailyOf w))) (p .ensures) (sym (drop-drop 3 2 v))
+    ∙ ap (λ (k : ℕ). callIn k v) (sym (c .before .before .before .match .keys5))
 
 returns-6 : tie.Need-returns-6
-returns-6 c =
+unfolding kindAt
+returns-6 c = ap (λ (k : ℕ). callIn k (now (c .before .before .before .args .v))) (sym (c .match .keys6))
+
+returns-7 : tie.Need-returns-7
+returns-7 c =
     let n = c .match .rest in
     let a = c .before .before .before .args in
-    sym (ask-else (a .kind) (at (now (a .v)) 1) (drop 2 (now (a .v))) (n .0 .0 .0 .0 .1) (n .0 .0 .0 .1) (n .0 .0 .1) (n .0 .1) (n .1))
+    sym (ask-else (a .kind) (at (now (a .v)) 1) (drop 2 (now (a .v))) (n .0 .0 .0 .0 .0 .1) (n .0 .0 .0 .0 .1) (n .0 .0 .0 .1) (n .0 .0 .1) (n .0 .1) (n .1))
 
 pub call-spec : {M : Type 1} → statement M
 call-spec =
@@ -99,6 +113,7 @@ call-spec =
     shared-slice-read-slot
     cast-slot
     receiver-of-requires
+    piece-of-requires
     add-daily-of
     sub-daily-of
     part-daily-of-start
@@ -109,4 +124,5 @@ call-spec =
     returns-3
     returns-4
     returns-5
-    returns-6)
+    returns-6
+    returns-7)
