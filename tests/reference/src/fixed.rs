@@ -3,18 +3,19 @@
 
 use crate::book::{encode, Book, TOP};
 use crate::chance::Chance;
+use crate::course::Course;
 use crate::daily::Daily;
 use crate::fields::{
-    Field, CAR_SPEED, GRADIENT, MINUS, RECEIVERS, RECEIVER_FIELDS, SOURCES, SOURCE_FIELDS,
-    SOURCE_SLOT, SURFACE, WALLS, WALL_HEIGHT, WALL_SPACING,
+    Field, CAR_SPEED, GRADIENT, MINUS, RECEIVERS, RECEIVER_FIELDS, SOURCES, SOURCE_SLOT, SURFACE,
+    WALLS, WALL_HEIGHT, WALL_SPACING,
 };
 use crate::limits::{trial_values, TURNING_SPEEDS};
 use crate::probe::{Frame, LONGEST_IMAGE};
 use crate::record::{kind_byte, spare_bits, unlisted_kinds, Record};
 use crate::road::{Receiver, Source, FAST_ABOVE, FAST_SURFACE};
 use crate::store::{
-    receiver_at, set_field, source_at, RECEIVER_BYTES, RECEIVER_SIZE, SOURCE_BYTES, SOURCE_SIZE,
-    STORE_SIZE, SUMS,
+    receiver_at, receiver_index, set_field, source_at, source_index, BETWEEN_SLOT, RECEIVER_BYTES,
+    RECEIVER_SIZE, SOURCE_BYTES, SOURCE_SIZE, STORE_SIZE, SUMS, UNCUT_SLOT,
 };
 
 /// The receiver of the worked case at 25 m.
@@ -29,9 +30,7 @@ pub fn example_receiver() -> Receiver {
 /// The source of the worked case at 25 m.
 pub fn example_source() -> Source {
     let mut source = Source {
-        x: 102_500,
-        y: 100_000,
-        length: 1000,
+        course: Course::uncut(102_500, 100_000, 1000),
         car_speed: 100,
         truck_speed: 80,
         surface: 1,
@@ -53,11 +52,21 @@ fn walled_source() -> Source {
     }
 }
 
-/// Records that place a source: with its traffic, and by a daily figure as a federal road has it.
-fn both_ways(source: Source) -> [Record; 2] {
+/// The same source between two ends, south and north of its middle.
+pub(crate) fn with_ends(source: Source) -> Source {
+    let (middle, length) = (source.course.middle(), source.course.length());
+    let south = middle.y - length / 2;
+    let course = Course::between(middle.x, south, middle.x, south + length);
+    Source { course, ..source }
+}
+
+/// Records that place a source: with its traffic, by a daily figure as a federal road has it, and
+/// between two ends.
+fn every_way(source: Source) -> [Record; 3] {
     [
         Record::PlaceSource(1, source),
         Record::PlaceDaily(2, Daily::new(source, 1, 12_000)),
+        Record::PlaceSource(3, with_ends(source)),
     ]
 }
 
@@ -76,8 +85,8 @@ pub fn example() -> Vec<u8> {
 }
 
 /// One record of each kind, all fit for the worked case.
-pub(crate) fn one_of_each() -> [Record; 6] {
-    let [place_source, place_daily] = both_ways(example_source());
+pub(crate) fn one_of_each() -> [Record; 7] {
+    let [place_source, place_daily, place_between] = every_way(example_source());
     [
         Record::PlaceReceiver(6, example_receiver()),
         Record::WithdrawReceiver(5),
@@ -85,6 +94,7 @@ pub(crate) fn one_of_each() -> [Record; 6] {
         Record::WithdrawSource(0),
         Record::Ask(5),
         place_daily,
+        place_between,
     ]
 }
 
@@ -120,7 +130,7 @@ fn leftover_records() -> Vec<Vec<u8>> {
 /// worth trying in as many bits as it is to have, and with more than one field wrong.
 pub(crate) fn trial_records(bits: impl Fn(&Field) -> u32) -> Vec<Record> {
     let mut records = Vec::new();
-    let walled = both_ways(walled_source());
+    let walled = every_way(walled_source());
     for record in one_of_each().into_iter().chain(walled) {
         for field in record.fields() {
             for value in trial_values(&mut Chance::new(0), field, bits(field)) {
@@ -187,7 +197,7 @@ fn parade(records: &[Record]) -> Vec<u8> {
 
 /// Records that place such sources into the last slot.
 pub(crate) fn surfaced_records() -> Vec<Record> {
-    let places = surfaced_sources().into_iter().flat_map(both_ways);
+    let places = surfaced_sources().into_iter().flat_map(every_way);
     let last = |place: Record| place.with(&SOURCE_SLOT, SOURCE_SLOT.most());
     places.map(last).collect()
 }
@@ -253,24 +263,29 @@ fn image_with(slot_at: usize, widths: &[usize], field: usize, value: u64) -> Vec
     image
 }
 
-/// Probes of fields: each of a standing source and receiver at every value worth trying, with a
-/// question and a withdrawal; and each sum, with one record of every kind.
+/// Probes of fields: each of the standing sources and the receiver at every value worth trying,
+/// with a question and a withdrawal; and each sum, with one record of every kind.
 fn field_frames() -> Vec<Frame> {
     let mut frames = Vec::new();
-    let parties = [
-        (&SOURCE_FIELDS[1..], source_at(0), &SOURCE_BYTES[..]),
-        (&RECEIVER_FIELDS[1..], receiver_at(5), &RECEIVER_BYTES[..]),
-    ];
-    for (fields, slot_at, widths) in parties {
-        for field in fields {
-            for value in trial_values(&mut Chance::new(0), field, field.stored_bits()) {
-                let image = image_with(slot_at, widths, field.index(), value as u64);
-                frames.extend(frames_on(
-                    &image,
-                    &[Record::Ask(5), Record::WithdrawSource(0)],
-                ));
-            }
+    let mut add = |slot_at, widths: &[usize], index, field: &Field| {
+        for value in trial_values(&mut Chance::new(0), field, field.stored_bits()) {
+            let image = image_with(slot_at, widths, index, value as u64);
+            let records = [0, 1].map(Record::WithdrawSource);
+            frames.extend(frames_on(&image, &[Record::Ask(5), records[0], records[1]]));
         }
+    };
+    for (slot, fields) in [(0, &UNCUT_SLOT), (1, &BETWEEN_SLOT)] {
+        for field in fields {
+            add(source_at(slot), &SOURCE_BYTES, source_index(field), field);
+        }
+    }
+    for field in &RECEIVER_FIELDS[1..] {
+        add(
+            receiver_at(5),
+            &RECEIVER_BYTES,
+            receiver_index(field),
+            field,
+        );
     }
     for sum in sum_edges() {
         for field in SUMS..RECEIVER_BYTES.len() {
@@ -297,7 +312,7 @@ fn paired_frames() -> Vec<Frame> {
                 &mut image,
                 source_at(0),
                 &SOURCE_BYTES,
-                field.index(),
+                source_index(field),
                 *value as u64,
             );
         }

@@ -52,8 +52,7 @@ pub(crate) fn low_sum(chance: &mut Chance) -> Frame {
 pub(crate) fn high_sum(chance: &mut Chance) -> Frame {
     let (town, mut book) = settled(chance);
     let slot = slot_in(chance, &book.sources, false);
-    let mut source = town.source(chance);
-    source.length = chance.between(1, 200);
+    let source = town.source(chance).uncut(chance.between(1, 200));
     let record = placing(chance, slot as i64, source);
     let source = record.source().expect("a source is placed");
     let at = slot_in(chance, &book.accounts, true);
@@ -97,19 +96,20 @@ fn step(chance: &mut Chance, distance: i64) -> (i64, i64) {
 
 fn receiver_at(chance: &mut Chance, source: &Source, distance: i64) -> Receiver {
     let (dx, dy) = step(chance, distance);
+    let middle = source.course.middle();
     Receiver {
-        x: (source.x + dx).clamp(0, FARTHEST),
-        y: (source.y + dy).clamp(0, FARTHEST),
+        x: (middle.x + dx).clamp(0, FARTHEST),
+        y: (middle.y + dy).clamp(0, FARTHEST),
         height: chance.edge_in(&HEIGHT),
     }
 }
 
 /// A loud road with room around it and much traffic in one period at least.
 fn meeting_road(chance: &mut Chance) -> Source {
-    let mut source = loud_road(chance);
-    source.length = chance.between(HALF_NEAREST, 10 * HALF_NEAREST);
-    source.x = chance.between(ROOM, FARTHEST - ROOM);
-    source.y = chance.between(ROOM, FARTHEST - ROOM);
+    let source = loud_road(chance).uncut(chance.between(HALF_NEAREST, 10 * HALF_NEAREST));
+    let x = chance.between(ROOM, FARTHEST - ROOM);
+    let y = chance.between(ROOM, FARTHEST - ROOM);
+    let mut source = source.moved(x, y);
     source.traffic = [(); 3].map(|()| traffic(chance));
     source.traffic[chance.index(3)] = Traffic {
         vehicles: chance.between(VEHICLES.most() / 2, VEHICLES.most()),
@@ -124,13 +124,10 @@ pub(crate) fn bad_pair(chance: &mut Chance) -> Frame {
     let slot = slot_in(chance, &book.accounts, true);
     let at = slot_in(chance, &book.sources, true);
     let old = book.sources[at].expect("the slot is in use");
-    let source = Source {
-        x: old.x,
-        y: old.y,
-        ..meeting_road(chance)
-    };
+    let middle = old.course.middle();
+    let source = meeting_road(chance).moved(middle.x, middle.y);
     book.sources[at] = Some(source);
-    let way = distance(chance, source.length, false);
+    let way = distance(chance, source.course.length(), false);
     book.accounts[slot] = Some(Account {
         receiver: receiver_at(chance, &source, way),
         sums: ample(chance),
@@ -155,7 +152,7 @@ pub(crate) fn met_by_source(chance: &mut Chance) -> Frame {
     let mut book = Book::cleared();
     for _ in 0..chance.between(1, 6) {
         let accepted = chance.one_in(2);
-        let way = distance(chance, source.length, accepted);
+        let way = distance(chance, source.course.length(), accepted);
         let sums = if chance.one_in(5) {
             [TOP; 3]
         } else {
@@ -176,11 +173,11 @@ pub(crate) fn met_by_receiver(chance: &mut Chance) -> Frame {
     let odds = chance.between(2, 40);
     let mut book = Book::cleared();
     for _ in 0..chance.between(1, 30) {
-        let mut source = meeting_road(chance);
+        let source = meeting_road(chance);
         let accepted = !chance.one_in(odds);
-        let way = distance(chance, source.length, accepted);
+        let way = distance(chance, source.course.length(), accepted);
         let (dx, dy) = step(chance, way);
-        (source.x, source.y) = (receiver.x + dx, receiver.y + dy);
+        let source = source.moved(receiver.x + dx, receiver.y + dy);
         book.sources[chance.index(SOURCES)] = Some(source);
     }
     let slot = slot_in(chance, &book.accounts, false);
@@ -231,8 +228,7 @@ pub(crate) fn tight_square(chance: &mut Chance) -> Frame {
     };
     let way = way_of_square(chance, square).unwrap_or(fallback);
     let receiver = way.receiver(chance);
-    let mut source = way.place(road(chance), &receiver);
-    source.length = length;
+    let source = way.place(road(chance).uncut(length), &receiver);
     let place = placing(chance, 0, source);
     lone_pair(chance, receiver, place)
 }
@@ -245,8 +241,7 @@ pub(crate) fn tight_level(chance: &mut Chance) -> Frame {
 
 /// A pair of which one period's share level is just zero, or just below it.
 pub(crate) fn faint_level(chance: &mut Chance) -> Frame {
-    let mut road = road(chance);
-    road.length = chance.magnitude(180);
+    let road = road(chance).uncut(chance.magnitude(180));
     tuned_pair(chance, road, WIDE, [1, 0])
 }
 

@@ -102,6 +102,7 @@ fn writings() -> [Writing; 15] {
     let mut busy = example_source();
     busy.traffic[0].vehicles = VEHICLES.most() + 1;
     let place = place_receiver().bytes().len();
+    let source = place_source().bytes().len();
     let ask = Record::Ask(5).bytes().len();
     [
         writing(Record::Ask(5), ask + 1),
@@ -112,8 +113,8 @@ fn writings() -> [Writing; 15] {
         // an x that would be the example's if only a record's bits counted
         writing(receiver(far), place),
         writing(receiver(high), place),
-        writing(place_source(), LONGEST + 1),
-        writing(place_source(), LONGEST - 1),
+        writing(place_source(), source + 1),
+        writing(place_source(), source - 1),
         // a surface for faster roads, and more vehicles than there may be
         writing(Record::PlaceSource(0, slow), LONGEST),
         writing(Record::PlaceSource(0, busy), LONGEST),

@@ -147,10 +147,7 @@ fn try_placings(draft: &mut Draft, chance: &mut Chance, receiver: Receiver, plac
 fn try_square(draft: &mut Draft, chance: &mut Chance, square: i64, length: i64) {
     if let Some(way) = way_of_square(chance, square) {
         let receiver = way.receiver(chance);
-        let source = Source {
-            length,
-            ..road(chance)
-        };
+        let source = road(chance).uncut(length);
         try_pair(draft, chance, receiver, way.place(source, &receiver));
     }
 }
@@ -176,10 +173,7 @@ fn near(chance: &mut Chance) -> Vec<u8> {
             height: example_receiver().height,
         };
         let receiver = way.receiver(chance);
-        let source = Source {
-            length: 100,
-            ..road(chance)
-        };
+        let source = road(chance).uncut(100);
         try_pair(&mut draft, chance, receiver, way.place(source, &receiver));
     }
     draft.bytes
@@ -196,14 +190,11 @@ fn far(chance: &mut Chance) -> Vec<u8> {
     for (x, y) in [(0, 0), (FARTHEST, 0), (0, FARTHEST), (FARTHEST, FARTHEST)] {
         let height = chance.within(&HEIGHT);
         let here = Receiver { x, y, height };
-        let there = Source {
-            x: FARTHEST - x,
-            y: chance.pick(&[0, FARTHEST]),
-            ..road(chance)
-        };
+        let across = chance.pick(&[0, FARTHEST]);
+        let there = road(chance).moved(FARTHEST - x, across);
         try_pair(&mut draft, chance, here, there);
-        let (x, y) = ((x - 9000).max(0), y);
-        try_pair(&mut draft, chance, here, Source { x, y, ..there });
+        let near = there.moved((x - 9000).max(0), y);
+        try_pair(&mut draft, chance, here, near);
     }
     draft.bytes
 }
@@ -223,10 +214,7 @@ fn long(chance: &mut Chance) -> Vec<u8> {
             height: example_receiver().height,
         };
         let receiver = way.receiver(chance);
-        let source = Source {
-            length,
-            ..road(chance)
-        };
+        let source = road(chance).uncut(length);
         try_pair(&mut draft, chance, receiver, way.place(source, &receiver));
     }
     draft.bytes
@@ -287,8 +275,8 @@ fn faint(chance: &mut Chance) -> Vec<u8> {
     let mut draft = Draft::default();
     for _ in 0..80 {
         let (receiver, way) = some_way(chance, WIDE);
-        let mut source = way.place(road(chance), &receiver);
-        source.length = chance.magnitude(300);
+        let source = road(chance).uncut(chance.magnitude(300));
+        let mut source = way.place(source, &receiver);
         if chance.one_in(3) {
             let level = chance.between(0, 1);
             try_tuned_by_day(&mut draft, chance, receiver, source, level);

@@ -5,7 +5,7 @@ use crate::book::{encode, Account, Book, TOP};
 use crate::chance::Chance;
 use crate::fields::{
     Field, CAR_SPEED, HEIGHT, RECEIVERS, RECEIVER_FIELDS, RECEIVER_SLOT, REFLECTION, SOURCES,
-    SOURCE_FIELDS, SOURCE_SLOT, SURFACE, WALLS, WALL_HEIGHT, WALL_SPACING,
+    SOURCE_SLOT, SURFACE, WALLS, WALL_HEIGHT, WALL_SPACING,
 };
 use crate::fixed::sum_edges;
 use crate::inconsistent::{
@@ -17,8 +17,8 @@ use crate::probe::{Frame, LONGEST_IMAGE, LONGEST_PIECE};
 use crate::record::{kind_byte, unlisted_kinds, Record};
 use crate::road::{FAST_ABOVE, FAST_SURFACE};
 use crate::store::{
-    receiver_at, set_field, source_at, RECEIVERS_AT, RECEIVER_BYTES, RECEIVER_SIZE, SOURCE_BYTES,
-    SOURCE_SIZE, STORE_SIZE, SUMS,
+    receiver_at, receiver_index, set_field, source_at, source_index, RECEIVERS_AT, RECEIVER_BYTES,
+    RECEIVER_SIZE, SOURCE_BYTES, SOURCE_SIZE, STORE_SIZE, SUMS, UNCUT_SLOT,
 };
 use crate::town::{placing, road, Town, WIDE};
 
@@ -292,13 +292,8 @@ fn source_field(chance: &mut Chance) -> Frame {
     let mut frame = frame_of(&book, &record);
     let at = source_at(slot_in(chance, &book.sources, true));
     let mut set = |field: &Field, value: i64| {
-        set_field(
-            &mut frame.image,
-            at,
-            &SOURCE_BYTES,
-            field.index(),
-            value as u64,
-        );
+        let index = source_index(field);
+        set_field(&mut frame.image, at, &SOURCE_BYTES, index, value as u64);
     };
     match chance.between(0, 9) {
         0 => {
@@ -318,7 +313,7 @@ fn source_field(chance: &mut Chance) -> Frame {
             }
         }
         _ => {
-            let field = chance.pick(&SOURCE_FIELDS[1..]);
+            let field = chance.pick(&UNCUT_SLOT);
             set(&field, trial_value(chance, &field, field.stored_bits()));
         }
     }
@@ -334,13 +329,8 @@ fn receiver_field(chance: &mut Chance) -> Frame {
     let any = chance.pick(&RECEIVER_FIELDS[1..]);
     let field = chance.pick(&[any, HEIGHT]);
     let value = trial_value(chance, &field, field.stored_bits());
-    set_field(
-        &mut frame.image,
-        at,
-        &RECEIVER_BYTES,
-        field.index(),
-        value as u64,
-    );
+    let index = receiver_index(&field);
+    set_field(&mut frame.image, at, &RECEIVER_BYTES, index, value as u64);
     frame
 }
 
@@ -380,9 +370,7 @@ fn dense(chance: &mut Chance) -> Frame {
     let town = Town::of_width(chance, WIDE);
     let mut book = Book::cleared();
     for slot in &mut book.sources {
-        let mut source = town.source(chance);
-        source.length = chance.magnitude(100);
-        *slot = Some(source);
+        *slot = Some(town.source(chance).uncut(chance.magnitude(100)));
     }
     for slot in &mut book.accounts {
         let receiver = town.receiver(chance);

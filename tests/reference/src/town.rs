@@ -3,6 +3,7 @@
 
 use crate::book::{Answer, Book};
 use crate::chance::Chance;
+use crate::course::Course;
 use crate::daily::Daily;
 use crate::fields::{
     Field, CAR_SPEED, CLASS, DTV, FARTHEST, HEIGHT, LANES, MINUS, RECEIVERS, RECEIVER_SLOT,
@@ -66,11 +67,7 @@ impl Town {
 
     pub fn source(&self, chance: &mut Chance) -> Source {
         let (x, y) = self.spot(chance);
-        Source {
-            x,
-            y,
-            ..road(chance)
-        }
+        road(chance).moved(x, y)
     }
 
     /// A record that places a source, told in either way.
@@ -159,9 +156,7 @@ pub fn road(chance: &mut Chance) -> Source {
     let car_speed = speed(chance, &CAR_SPEED);
     let (walls, wall_height, wall_spacing) = walls(chance);
     Source {
-        x: 0,
-        y: 0,
-        length: chance.magnitude(6000),
+        course: Course::uncut(0, 0, chance.magnitude(6000)),
         several_lanes: chance.within(&LANES),
         car_speed,
         truck_speed: speed(chance, &TRUCK_SPEED),

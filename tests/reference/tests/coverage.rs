@@ -147,7 +147,7 @@ fn probes_meet_every_refusal() {
         assert!(counts[number] >= 3, "refusal {number}");
     }
     for (kind, met) in late.into_iter().enumerate() {
-        let possible = [3, 4, 6].contains(&kind);
+        let possible = [3, 4, 6, 7].contains(&kind);
         assert!(possible == (met >= 5), "late 1 of records of kind {kind}");
         assert!(possible || met == 0, "late 1 of records of kind {kind}");
     }
@@ -219,14 +219,13 @@ fn named_although(kind: u8, field: &Field, wrong: impl Fn(&Record) -> bool) -> b
 fn fixed_writings_of_sources_have_more_than_one_field_wrong() {
     for kind in [3, 6] {
         let fields = fields_of(kind).unwrap();
-        let value = |record: &Record, field: &Field| record.values()[usize::from(field.number) - 1];
         for pair in fields.windows(2) {
-            let next_wrong = |record: &Record| !pair[1].allows(value(record, &pair[1]));
+            let next_wrong = |record: &Record| !pair[1].allows(record.value(&pair[1]));
             assert!(named_although(kind, &pair[0], next_wrong), "{pair:?}");
         }
         let slow = |record: &Record| {
-            let fast_surface = value(record, &SURFACE) >= FAST_SURFACE;
-            fast_surface && value(record, &CAR_SPEED) <= FAST_ABOVE
+            let fast_surface = record.value(&SURFACE) >= FAST_SURFACE;
+            fast_surface && record.value(&CAR_SPEED) <= FAST_ABOVE
         };
         assert!(named_although(kind, &fields[fields.len() - 1], slow));
     }

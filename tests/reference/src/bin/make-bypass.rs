@@ -1,6 +1,7 @@
 // Prints the example job: a bypass that bends around a village, cut into sixty pieces, and a side street.
 // One receiver is placed so near that a piece is too long for it (refusal 12), to show what a refusal looks like.
 
+use reference::course::Course;
 use reference::daily::Daily;
 use reference::fields::HEIGHT;
 use reference::record::Record;
@@ -28,9 +29,7 @@ fn piece(number: i64) -> Source {
         trucks: 200,
     });
     Source {
-        x: (x1 + x2) / 2,
-        y: (y1 + y2) / 2,
-        length: root(dx * dx + dy * dy),
+        course: Course::uncut((x1 + x2) / 2, (y1 + y2) / 2, root(dx * dx + dy * dy)),
         car_speed: 100,
         truck_speed: 80,
         surface: 1,
@@ -77,10 +76,10 @@ fn repaved(number: i64) -> Source {
 /// A long house front across the road mirrors one piece.
 fn mirrored(number: i64) -> Source {
     let original = piece(number);
+    let middle = original.course.middle();
     Source {
-        y: original.y + 9_000,
         reflection: 1,
-        ..original
+        ..original.moved(middle.x, middle.y + 9_000)
     }
 }
 
@@ -88,9 +87,7 @@ fn mirrored(number: i64) -> Source {
 /// street of 1500 vehicles a day, 50 km/h, mastic asphalt.
 fn street(number: i64) -> Daily {
     let piece = Source {
-        x: 452_000 + 2000 * number,
-        y: 435_000,
-        length: 2000,
+        course: Course::uncut(452_000 + 2000 * number, 435_000, 2000),
         car_speed: 50,
         truck_speed: 50,
         surface: 1,

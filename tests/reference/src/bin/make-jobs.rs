@@ -2,6 +2,7 @@
 // and a town that is asked. Every record in them is taken.
 
 use reference::chance::Chance;
+use reference::course::Course;
 use reference::fields::{HEIGHT, LANES, MINUS, RECEIVERS, SOURCES, SURFACE};
 use reference::record::Record;
 use reference::road::{Receiver, Source, Traffic};
@@ -54,9 +55,7 @@ fn road(chance: &mut Chance, x: i64, y: i64) -> Source {
         chance.pick(&[(30, 30), (50, 50), (70, 60), (100, 80), (130, 80)]);
     let walls = chance.pick(&[0, 0, 0, 0, 1, 2]);
     Source {
-        x,
-        y,
-        length: chance.between(300, 2000),
+        course: Course::uncut(x, y, chance.between(300, 2000)),
         several_lanes: chance.within(&LANES),
         car_speed,
         truck_speed,
@@ -103,8 +102,8 @@ fn edited(chance: &mut Chance) -> Vec<u8> {
         assert!(draft.put_if_taken(Record::WithdrawSource(slot as i64)));
         let mut taken = false;
         while !taken {
-            let mut changed = road(chance, old.x, old.y);
-            changed.length = old.length;
+            let middle = old.course.middle();
+            let changed = road(chance, middle.x, middle.y).uncut(old.course.length());
             taken = draft.put_if_taken(Record::PlaceSource(slot as i64, changed));
         }
         ask_any(&mut draft, chance);
