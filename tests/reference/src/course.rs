@@ -91,6 +91,17 @@ impl Course {
         }
     }
 
+    /// The same course from its other end.
+    pub fn reversed(self) -> Course {
+        match self {
+            Course::Uncut { .. } => self,
+            Course::Between { first, second } => Course::Between {
+                first: second,
+                second: first,
+            },
+        }
+    }
+
     /// The same course with its middle elsewhere.
     pub fn moved(&self, x: i64, y: i64) -> Course {
         let from = self.middle();

@@ -1,13 +1,14 @@
 // Jobs and probes that are tried every time, whatever the seed is.
 // They go through what can be listed in full: cuts, kinds, limits of fields, marks, lengths.
 
-use crate::book::{encode, Book, TOP};
+use crate::book::{decode, encode, Book, TOP};
 use crate::chance::Chance;
 use crate::course::Course;
+use crate::cuts::{corner_roads, stretched_roads};
 use crate::daily::Daily;
 use crate::fields::{
-    Field, CAR_SPEED, GRADIENT, MINUS, RECEIVERS, RECEIVER_FIELDS, SOURCES, SOURCE_SLOT, SURFACE,
-    WALLS, WALL_HEIGHT, WALL_SPACING,
+    Field, BETWEEN_COURSE, CAR_SPEED, GRADIENT, LENGTH, MINUS, RECEIVERS, RECEIVER_FIELDS, SOURCES,
+    SOURCE_SLOT, SURFACE, WALLS, WALL_HEIGHT, WALL_SPACING,
 };
 use crate::limits::{trial_values, TURNING_SPEEDS};
 use crate::probe::{Frame, LONGEST_IMAGE};
@@ -58,6 +59,11 @@ pub(crate) fn with_ends(source: Source) -> Source {
     let south = middle.y - length / 2;
     let course = Course::between(middle.x, south, middle.x, south + length);
     Source { course, ..source }
+}
+
+/// A source between two ends that is cut before the receiver of the worked case.
+fn cut_source() -> Source {
+    with_ends(walled_source().uncut(2600))
 }
 
 /// Records that place a source: with its traffic, by a daily figure as a federal road has it, and
@@ -146,13 +152,36 @@ pub(crate) fn trial_records(bits: impl Fn(&Field) -> u32) -> Vec<Record> {
     for record in walled.map(slow) {
         records.extend(wrong_from_each(record, &bits));
     }
+    records.extend(laid_records());
+    records
+}
+
+/// A source between two ends of every length at which it is treated otherwise, and from every
+/// corner of the map; those of a length that is not allowed also with all later fields wrong.
+fn laid_records() -> Vec<Record> {
+    let chance = &mut Chance::new(0);
+    let mut roads = stretched_roads(chance, walled_source());
+    let wrong = |road: &&Source| !LENGTH.allows(road.course.length());
+    let wrong: Vec<Source> = roads.iter().filter(wrong).copied().collect();
+    roads.extend(corner_roads(chance, walled_source()));
+    let place = |road: Source| Record::PlaceSource(3, road);
+    let mut records: Vec<Record> = roads.into_iter().map(place).collect();
+    for record in wrong.into_iter().map(place) {
+        let later = &record.fields()[1 + BETWEEN_COURSE.len()..];
+        records.extend(wrong_from(record, later, |field| field.bits));
+    }
     records
 }
 
 /// A record with all fields wrong from one on that can be, for one field after the other.
-fn wrong_from_each(mut record: Record, bits: impl Fn(&Field) -> u32) -> Vec<Record> {
+fn wrong_from_each(record: Record, bits: impl Fn(&Field) -> u32) -> Vec<Record> {
+    wrong_from(record, record.fields(), bits)
+}
+
+/// The same for some of its fields, which are the last.
+fn wrong_from(mut record: Record, fields: &[Field], bits: impl Fn(&Field) -> u32) -> Vec<Record> {
     let mut records = Vec::new();
-    for field in record.fields().iter().rev() {
+    for field in fields.iter().rev() {
         for wrong in field.outer_edges(bits(field)) {
             record = record.with(field, wrong);
             records.push(record);
@@ -218,12 +247,13 @@ pub fn fixed_jobs() -> Vec<Vec<u8>> {
     jobs
 }
 
-/// The stored state of the worked case.
+/// The stored state of the worked case, with a source more that is cut.
 fn example_image() -> Vec<u8> {
     let mut book = Book::cleared();
     let placed = book
         .place_receiver(5, &example_receiver())
-        .and_then(|()| book.place_source(0, &walled_source()));
+        .and_then(|()| book.place_source(0, &walled_source()))
+        .and_then(|()| book.place_source(4, &cut_source()));
     assert!(placed.is_ok(), "the worked case is accepted");
     encode(&book)
 }
@@ -270,11 +300,10 @@ fn field_frames() -> Vec<Frame> {
     let mut add = |slot_at, widths: &[usize], index, field: &Field| {
         for value in trial_values(&mut Chance::new(0), field, field.stored_bits()) {
             let image = image_with(slot_at, widths, index, value as u64);
-            let records = [0, 1].map(Record::WithdrawSource);
-            frames.extend(frames_on(&image, &[Record::Ask(5), records[0], records[1]]));
+            frames.extend(frames_on(&image, &looks()));
         }
     };
-    for (slot, fields) in [(0, &UNCUT_SLOT), (1, &BETWEEN_SLOT)] {
+    for (slot, fields) in [(0, &UNCUT_SLOT), (4, &BETWEEN_SLOT)] {
         for field in fields {
             add(source_at(slot), &SOURCE_BYTES, source_index(field), field);
         }
@@ -296,28 +325,62 @@ fn field_frames() -> Vec<Frame> {
     frames
 }
 
+/// A question and the withdrawals of both sources of the worked case.
+fn looks() -> [Record; 3] {
+    [
+        Record::Ask(5),
+        Record::WithdrawSource(0),
+        Record::WithdrawSource(4),
+    ]
+}
+
+/// Probes of courses: sources between two ends of every kind tried, and every byte that may say how
+/// four numbers are to be taken, where they can be taken in either way.
+fn course_frames() -> Vec<Frame> {
+    let mut frames = Vec::new();
+    for record in laid_records() {
+        let mut book = decode(&example_image()).expect("the worked case is sound");
+        book.sources[4] = record.source();
+        frames.extend(frames_on(&encode(&book), &looks()));
+    }
+    for told in [0, 1, 2, 3, 127, 128, 254, 255] {
+        for last in [0, 1, 256, 65_536] {
+            let mut image = example_image();
+            for (index, value) in [told, 2000, 3000, 1000, last].into_iter().enumerate() {
+                set_field(&mut image, source_at(4), &SOURCE_BYTES, index, value);
+            }
+            frames.extend(frames_on(&image, &looks()));
+        }
+    }
+    frames
+}
+
 /// Sums worth trying: the greatest and those beside it, and the ends of what the bytes hold.
 pub(crate) fn sum_edges() -> [u64; 8] {
     let (top, half) = (TOP as u64, 1 << 63);
     [0, 1, top - 1, top, top + 1, half - 1, half, u64::MAX]
 }
 
-/// Probes of pairs of fields that hang together: surface and speed, walls and their sizes.
+/// Probes of pairs of fields that hang together, in both standing sources: surface and speed, walls
+/// and their sizes.
 fn paired_frames() -> Vec<Frame> {
     let mut frames = Vec::new();
     let mut add = |settings: &[(Field, i64)]| {
-        let mut image = example_image();
-        for (field, value) in settings {
-            set_field(
-                &mut image,
-                source_at(0),
-                &SOURCE_BYTES,
-                source_index(field),
-                *value as u64,
-            );
+        for slot in [0, 4] {
+            let mut image = example_image();
+            for (field, value) in settings {
+                let index = source_index(field);
+                set_field(
+                    &mut image,
+                    source_at(slot),
+                    &SOURCE_BYTES,
+                    index,
+                    *value as u64,
+                );
+            }
+            let record = Record::Ask(5).bytes();
+            frames.push(Frame { image, record });
         }
-        let record = Record::Ask(5).bytes();
-        frames.push(Frame { image, record });
     };
     for source in surfaced_sources() {
         add(&[(CAR_SPEED, source.car_speed), (SURFACE, source.surface)]);
@@ -340,7 +403,7 @@ fn paired_frames() -> Vec<Frame> {
 /// Probes of single bytes: use marks, and every byte of slots that are not in use.
 fn byte_frames() -> Vec<Frame> {
     let mut places = Vec::new();
-    let sources = [0, 1, SOURCES - 1].map(source_at);
+    let sources = [0, 1, 4, SOURCES - 1].map(source_at);
     let receivers = [0, 5, 6, RECEIVERS - 1].map(receiver_at);
     for mark in sources.into_iter().chain(receivers) {
         places.extend([0, 1, 2, 3, 127, 128, 255].map(|byte| (mark, byte)));
@@ -382,6 +445,7 @@ fn length_frames() -> Vec<Frame> {
 pub fn fixed_frames() -> Vec<Frame> {
     let mut frames = record_frames();
     frames.extend(field_frames());
+    frames.extend(course_frames());
     frames.extend(paired_frames());
     frames.extend(byte_frames());
     frames.extend(length_frames());

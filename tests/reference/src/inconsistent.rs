@@ -1,10 +1,12 @@
 // Stored states that are not damaged but that no history has, with the calls that meet this.
 // Also pairs just at the limits, where one step decides between two answers.
 
-use crate::book::{mean_energy, Account, Book, TOP};
+use crate::book::{decode, mean_energy, Account, Book, TOP};
 use crate::chance::Chance;
+use crate::course::Course;
+use crate::cuts::{pair, receiver_beside, span, spanned};
 use crate::fields::{
-    FARTHEST, HEIGHT, RECEIVERS, RECEIVER_SLOT, SOURCES, SOURCE_SLOT, TRUCKS, VEHICLES,
+    FARTHEST, HEIGHT, LENGTH, RECEIVERS, RECEIVER_SLOT, SOURCES, SOURCE_SLOT, TRUCKS, VEHICLES,
 };
 use crate::fixed::example_receiver;
 use crate::level::{energy, level, FAINTEST};
@@ -13,7 +15,7 @@ use crate::limits::{
     NEAR_STEPS, ROOM,
 };
 use crate::probe::Frame;
-use crate::record::Record;
+use crate::record::{take, Record};
 use crate::road::{
     emission, root, shares, Receiver, Source, Traffic, FARTHEST_SQUARE, LOUDEST, NEAREST_SQUARE,
     SOURCE_HEIGHT,
@@ -22,7 +24,7 @@ use crate::stores::{fitting_record, frame_of, settled, slot_in};
 use crate::town::{placing, road, traffic, Town, WIDE};
 
 /// What a source brings to a receiver; nothing where the pair is refused.
-fn brought(source: &Source, receiver: &Receiver) -> [i64; 3] {
+fn heard_of(source: &Source, receiver: &Receiver) -> [i64; 3] {
     shares(source, &emission(source), receiver).unwrap_or([0; 3])
 }
 
@@ -38,7 +40,7 @@ pub(crate) fn low_sum(chance: &mut Chance) -> Frame {
     let source = book.sources[leaving].expect("the slot is in use");
     let odds = chance.between(1, 8);
     for account in book.accounts.iter_mut().flatten() {
-        let shares = brought(&source, &account.receiver);
+        let shares = heard_of(&source, &account.receiver);
         let period = chance.index(3);
         if chance.one_in(odds) {
             account.sums[period] = (shares[period] + chance.pick(&[-1, 0, 0, 1])).max(0);
@@ -52,12 +54,15 @@ pub(crate) fn low_sum(chance: &mut Chance) -> Frame {
 pub(crate) fn high_sum(chance: &mut Chance) -> Frame {
     let (town, mut book) = settled(chance);
     let slot = slot_in(chance, &book.sources, false);
-    let source = town.source(chance).uncut(chance.between(1, 200));
+    let source = match chance.between(0, 2) {
+        0 => town.between(chance),
+        _ => town.source(chance).uncut(chance.between(1, 200)),
+    };
     let record = placing(chance, slot as i64, source);
     let source = record.source().expect("a source is placed");
     let at = slot_in(chance, &book.accounts, true);
     if let Some(account) = &mut book.accounts[at] {
-        let shares = brought(&source, &account.receiver);
+        let shares = heard_of(&source, &account.receiver);
         let period = chance.index(3);
         let excess = chance.between(-1, 1).min(shares[period]);
         account.sums[period] = TOP - shares[period] + excess;
@@ -94,9 +99,12 @@ fn step(chance: &mut Chance, distance: i64) -> (i64, i64) {
     (dx * chance.pick(&[-1, 1]), dy * chance.pick(&[-1, 1]))
 }
 
+/// A receiver so far from an uncut source, or beside one between two ends.
 fn receiver_at(chance: &mut Chance, source: &Source, distance: i64) -> Receiver {
+    let Course::Uncut { middle, .. } = source.course else {
+        return receiver_beside(chance, &source.course, distance);
+    };
     let (dx, dy) = step(chance, distance);
-    let middle = source.course.middle();
     Receiver {
         x: (middle.x + dx).clamp(0, FARTHEST),
         y: (middle.y + dy).clamp(0, FARTHEST),
@@ -106,7 +114,11 @@ fn receiver_at(chance: &mut Chance, source: &Source, distance: i64) -> Receiver 
 
 /// A loud road with room around it and much traffic in one period at least.
 fn meeting_road(chance: &mut Chance) -> Source {
-    let source = loud_road(chance).uncut(chance.between(HALF_NEAREST, 10 * HALF_NEAREST));
+    let mut source = loud_road(chance).uncut(chance.between(HALF_NEAREST, 10 * HALF_NEAREST));
+    if chance.one_in(3) {
+        let length = HALF_NEAREST + chance.magnitude(LENGTH.most() - HALF_NEAREST);
+        source.course = spanned(source.course.middle(), span(chance, length));
+    }
     let x = chance.between(ROOM, FARTHEST - ROOM);
     let y = chance.between(ROOM, FARTHEST - ROOM);
     let mut source = source.moved(x, y);
@@ -118,6 +130,16 @@ fn meeting_road(chance: &mut Chance) -> Source {
     source
 }
 
+/// The same source with its ends no farther than where the map ends.
+fn on_the_map(source: Source) -> Source {
+    let Course::Between { first, second } = source.course else {
+        return source;
+    };
+    let [x1, y1, x2, y2] = [first.x, first.y, second.x, second.y].map(|c| c.clamp(0, FARTHEST));
+    let course = Course::between(x1, y1, x2, y2);
+    Source { course, ..source }
+}
+
 /// A pair that no history has, among others. The sums may be ample, so that they do not tell.
 pub(crate) fn bad_pair(chance: &mut Chance) -> Frame {
     let (town, mut book) = settled(chance);
@@ -125,9 +147,9 @@ pub(crate) fn bad_pair(chance: &mut Chance) -> Frame {
     let at = slot_in(chance, &book.sources, true);
     let old = book.sources[at].expect("the slot is in use");
     let middle = old.course.middle();
-    let source = meeting_road(chance).moved(middle.x, middle.y);
+    let source = on_the_map(meeting_road(chance).moved(middle.x, middle.y));
     book.sources[at] = Some(source);
-    let way = distance(chance, source.course.length(), false);
+    let way = distance(chance, source.course.length().max(HALF_NEAREST), false);
     book.accounts[slot] = Some(Account {
         receiver: receiver_at(chance, &source, way),
         sums: ample(chance),
@@ -216,6 +238,35 @@ fn tight_numbers(chance: &mut Chance) -> (i64, i64) {
             (4 * half * half + chance.between(-1, 1), half)
         }
     }
+}
+
+/// A road between two ends and its receiver, of any kind that there is.
+pub(crate) fn cut_pair(chance: &mut Chance) -> Frame {
+    let (receiver, source) = pair(chance);
+    let frame = lone_pair(chance, receiver, Record::PlaceSource(0, source));
+    match decode(&frame.image) {
+        Some(book) if chance.one_in(2) => tight_sums(chance, book, frame),
+        _ => frame,
+    }
+}
+
+/// The same probe with the sums of every receiver just enough, or just not, for what its record
+/// adds to them or takes off.
+fn tight_sums(chance: &mut Chance, mut book: Book, frame: Frame) -> Frame {
+    let Ok((record, _)) = take(&frame.record) else {
+        return frame;
+    };
+    let (source, most) = match record {
+        Record::WithdrawSource(slot) => (book.sources[slot as usize], false),
+        _ => (record.source(), true),
+    };
+    for account in book.accounts.iter_mut().flatten() {
+        let shares = source.map_or([0; 3], |source| heard_of(&source, &account.receiver));
+        let period = chance.index(3);
+        let share = shares[period] + chance.between(-1, 1);
+        account.sums[period] = if most { TOP - share } else { share }.clamp(0, TOP);
+    }
+    frame_of(&book, &record)
 }
 
 /// A pair whose squared distance is just at a limit or one step beside it.

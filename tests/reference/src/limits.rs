@@ -9,8 +9,9 @@ use crate::fields::{
     STEEPEST, TRUCK_SPEED, VEHICLES,
 };
 use crate::road::{
-    emission, heard, root, PeriodLevels, Receiver, Source, Traffic, CAR_SPEEDS, FARTHEST_SQUARE,
-    FAST_ABOVE, FAST_SURFACE, FLAT, NEAREST_SQUARE, SOURCE_HEIGHT, SURFACE_COLUMNS, TRUCK_SPEEDS,
+    brought, emission, heard, root, PeriodLevels, Receiver, Source, Traffic, CAR_SPEEDS,
+    FARTHEST_SQUARE, FAST_ABOVE, FAST_SURFACE, FLAT, NEAREST_SQUARE, SOURCE_HEIGHT,
+    SURFACE_COLUMNS, TRUCK_SPEEDS,
 };
 use crate::town::road;
 use std::sync::LazyLock;
@@ -180,6 +181,17 @@ fn level_with(source: &Source, receiver: &Receiver, period: usize, vehicles: i64
 pub fn tuned(source: &Source, receiver: &Receiver, period: usize, level: i64) -> Option<i64> {
     let lifts = |vehicles| level_with(source, receiver, period, vehicles) >= Some(level);
     least(VEHICLES.most(), lifts)
+}
+
+/// The least traffic with which a source brings at least the given share in one period, if any does.
+pub fn tuned_share(source: &Source, receiver: &Receiver, period: usize, share: i64) -> Option<i64> {
+    let enough = |vehicles| {
+        let mut source = *source;
+        source.traffic[period].vehicles = vehicles;
+        let shares = brought(&source, &emission(&source), receiver);
+        shares.is_ok_and(|shares| shares[period] >= share)
+    };
+    least(VEHICLES.most(), enough)
 }
 
 /// A road whose daily figure is just enough, or just not, to lift one period's share level to the

@@ -421,14 +421,19 @@ fn summed(
     Ok(sums)
 }
 
-/// What a source brings to a receiver, or the refusal of the pair, 10 to 13.
-pub fn shares(source: &Source, sent: &PeriodLevels, receiver: &Receiver) -> Result<Shares, u8> {
-    let shares = match source.course {
+/// What a source brings to a receiver, however loud, or refusal 10, 11 or 12 of the pair.
+pub fn brought(source: &Source, sent: &PeriodLevels, receiver: &Receiver) -> Result<Shares, u8> {
+    match source.course {
         Course::Uncut { middle, length } => {
             whole(sent, &Piece::new(middle, length, receiver), receiver)
         }
         Course::Between { first, second } => summed(sent, first, second, receiver),
-    }?;
+    }
+}
+
+/// What a source brings to a receiver, or the refusal of the pair, 10 to 13.
+pub fn shares(source: &Source, sent: &PeriodLevels, receiver: &Receiver) -> Result<Shares, u8> {
+    let shares = brought(source, sent, receiver)?;
     if shares.iter().any(|&share| share > GREATEST_SHARE) {
         return Err(13);
     }

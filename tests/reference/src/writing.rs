@@ -3,6 +3,7 @@
 
 use crate::book::Answer;
 use crate::chance::Chance;
+use crate::cuts::{corner_roads, stretched_roads};
 use crate::fields::{
     Field, BETWEEN_FIELDS, RECEIVERS, RECEIVER_SLOT, SECOND_Y, SOURCES, SOURCE_SLOT,
 };
@@ -130,8 +131,15 @@ pub fn writing(seed: u64) -> Writing {
     Writing { record, room }
 }
 
-/// The same record with its slot or a field at a limit, beyond it, or beyond what a record holds.
+/// The same record with its slot or a field at a limit, beyond it, or beyond what a record holds;
+/// or with other ends, at the corners of the map or just as far apart as they may be.
 fn changed(chance: &mut Chance, record: Record) -> Record {
+    if let (7, Record::PlaceSource(slot, source), true) = (record.kind(), record, chance.one_in(4))
+    {
+        let mut roads = stretched_roads(chance, source);
+        roads.extend(corner_roads(chance, source));
+        return Record::PlaceSource(slot, chance.pick(&roads));
+    }
     let at = chance.index(record.fields().len());
     let field = &record.fields()[at];
     let mut values = trial_values(chance, field, bits_of(field));
