@@ -120,7 +120,11 @@ impl Writing {
 pub fn writing(seed: u64) -> Writing {
     let chance = &mut Chance::new(seed);
     let town = Town::anywhere(chance);
-    let mut record = town.record(chance, SOURCES, RECEIVERS);
+    let slot = chance.within(&SOURCE_SLOT);
+    let mut record = match chance.between(0, 1) {
+        0 => town.placing(chance, slot),
+        _ => town.record(chance, SOURCES, RECEIVERS),
+    };
     for _ in 0..chance.pick(&[0, 0, 1, 1, 2]) {
         record = changed(chance, record);
     }

@@ -206,7 +206,7 @@ fn jobs_meet_every_edge_of_every_field() {
 #[test]
 fn writings_meet_every_edge_of_every_field() {
     let mut missed = Missed::all(&listed_kinds(), bits_of);
-    (1..=60_000).for_each(|seed| missed.meet(&writing(seed).record));
+    (1..=120_000).for_each(|seed| missed.meet(&writing(seed).record));
     missed.none("writings by chance");
     missed = Missed::all(&listed_kinds(), bits_of);
     let fixed = fixed_writings();
