@@ -243,10 +243,12 @@ fn far(chance: &mut Chance) -> (Receiver, Source) {
     part(chance, square, length, 1)
 }
 
-/// A piece just so long that it is cut, or just not, alone or as part of a longer road.
+/// A piece just so long that it is cut, or just not, alone or as part of a longer road; or just so
+/// short that it is not although it is long for its distance.
 fn halved(chance: &mut Chance) -> (Receiver, Source) {
-    let length = chance.pick(&HALVES);
-    let square = 4 * length * length + chance.between(-1, 1);
+    let half = chance.pick(&HALVES);
+    let length = chance.pick(&[half, half, SHORT, SHORT + 1]);
+    let square = 4 * length * length + chance.between(-3, 1);
     let times = chance.pick(&[0, 0, 1, 2]);
     part(chance, square, length, times)
 }
@@ -293,9 +295,9 @@ fn loud(chance: &mut Chance) -> (Receiver, Source) {
 fn silent(chance: &mut Chance) -> (Receiver, Source) {
     let maker = chance.pick(&[passing, leading, over, near, far]);
     let (receiver, mut source) = maker(chance);
-    let quiet = chance.between(0, 3) as usize;
+    let quiet = chance.between(0, 8) as usize;
     for period in 0..3 {
-        if period == quiet || quiet == 3 {
+        if period == quiet || quiet >= 3 {
             source.traffic[period].vehicles = 0;
         }
     }

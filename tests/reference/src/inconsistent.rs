@@ -263,7 +263,7 @@ fn tight_sums(chance: &mut Chance, mut book: Book, frame: Frame) -> Frame {
     for account in book.accounts.iter_mut().flatten() {
         let shares = source.map_or([0; 3], |source| heard_of(&source, &account.receiver));
         let period = chance.index(3);
-        let share = shares[period] + chance.between(-1, 1);
+        let share = shares[period] + chance.pick(&[-1, -1, 0, 1]);
         account.sums[period] = if most { TOP - share } else { share }.clamp(0, TOP);
     }
     frame_of(&book, &record)

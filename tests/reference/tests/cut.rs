@@ -301,7 +301,7 @@ fn the_greatest_coordinates_are_allowed() {
     let corner = 16_777_215;
     for (course, x, y) in [
         (Course::between(0, 0, 0, 1), 1000, 0),
-        (Course::between(60_000, 80_000, 0, 0), 0, corner / 1000),
+        (Course::between(60_000, 80_000, 0, 0), 0, 20_000),
         (
             Course::between(corner, corner, corner, corner - 100_000),
             corner - 50_000,
