@@ -8,7 +8,7 @@ use crate::cuts::{corner_roads, stretched_roads};
 use crate::daily::Daily;
 use crate::fields::{
     Field, BETWEEN_COURSE, CAR_SPEED, GRADIENT, LENGTH, MINUS, RECEIVERS, RECEIVER_FIELDS, SOURCES,
-    SOURCE_SLOT, SURFACE, WALLS, WALL_HEIGHT, WALL_SPACING,
+    SOURCE_SLOT, SURFACE, VEHICLES, WALLS, WALL_HEIGHT, WALL_SPACING,
 };
 use crate::limits::{trial_values, TURNING_SPEEDS};
 use crate::probe::{Frame, LONGEST_IMAGE};
@@ -156,19 +156,72 @@ pub(crate) fn trial_records(bits: impl Fn(&Field) -> u32) -> Vec<Record> {
     records
 }
 
-/// A source between two ends of every length at which it is treated otherwise, and from every
-/// corner of the map; those of a length that is not allowed also with all later fields wrong.
-fn laid_records() -> Vec<Record> {
+/// Sources between two ends of every length at which they are treated otherwise, and from every
+/// corner of the map.
+fn laid_sources() -> Vec<Source> {
     let chance = &mut Chance::new(0);
     let mut roads = stretched_roads(chance, walled_source());
-    let wrong = |road: &&Source| !LENGTH.allows(road.course.length());
-    let wrong: Vec<Source> = roads.iter().filter(wrong).copied().collect();
     roads.extend(corner_roads(chance, walled_source()));
-    let place = |road: Source| Record::PlaceSource(3, road);
-    let mut records: Vec<Record> = roads.into_iter().map(place).collect();
-    for record in wrong.into_iter().map(place) {
-        let later = &record.fields()[1 + BETWEEN_COURSE.len()..];
-        records.extend(wrong_from(record, later, |field| field.bits));
+    roads
+}
+
+/// Records that place such sources; those of a length that is not allowed also with all later
+/// fields wrong.
+fn laid_records() -> Vec<Record> {
+    let mut records = Vec::new();
+    for road in laid_sources() {
+        let record = Record::PlaceSource(3, road);
+        records.push(record);
+        if !LENGTH.allows(road.course.length()) {
+            let later = &record.fields()[1 + BETWEEN_COURSE.len()..];
+            records.extend(wrong_from(record, later, |field| field.bits));
+        }
+    }
+    records
+}
+
+/// Ends of roads beside the receiver of the worked case that are cut or just not, heard or just not.
+const WORKED_ENDS: [[i64; 4]; 14] = [
+    // at 25 m, where an uncut one would be refused 12 or just not
+    [102_500, 99_369, 102_500, 100_631],
+    [102_500, 99_369, 102_500, 100_632],
+    // with odd sums of coordinates, upright and slanting
+    [101_000, 99_001, 101_000, 101_000],
+    [101_001, 99_000, 102_000, 100_001],
+    // just so short that they are not cut
+    [100_340, 99_875, 100_340, 100_125],
+    [100_340, 99_875, 100_340, 100_126],
+    [100_360, 99_875, 100_360, 100_126],
+    // with their own middle too near and with halves that are not, or just are
+    [100_340, 99_750, 100_340, 100_250],
+    [100_335, 99_750, 100_335, 100_250],
+    [100_334, 99_750, 100_334, 100_250],
+    // with an end too near, or just not
+    [100_232, 100_000, 102_232, 100_000],
+    [100_233, 100_000, 102_233, 100_000],
+    // with an end too far, and not cut
+    [240_000, 100_000, 340_000, 100_000],
+    [245_000, 100_000, 335_000, 100_000],
+];
+
+/// Records that place such roads, from either end, as the worked case has them, very busy, and with
+/// nothing on them.
+fn worked_records() -> Vec<Record> {
+    let mut records = Vec::new();
+    for [x1, y1, x2, y2] in WORKED_ENDS {
+        let course = Course::between(x1, y1, x2, y2);
+        for vehicles in [None, Some(0), Some(VEHICLES.most())] {
+            for course in [course, course.reversed()] {
+                let mut source = Source {
+                    course,
+                    ..walled_source()
+                };
+                for traffic in &mut source.traffic {
+                    traffic.vehicles = vehicles.unwrap_or(traffic.vehicles);
+                }
+                records.push(Record::PlaceSource(3, source));
+            }
+        }
     }
     records
 }
@@ -239,6 +292,7 @@ pub fn fixed_jobs() -> Vec<Vec<u8>> {
         example(),
         parade(&trial_records(|field| field.bits)),
         parade(&surfaced_records()),
+        parade(&worked_records()),
         [example(), leftover_records().concat()].concat(),
     ];
     jobs.extend(cut_records().iter().map(after_example));
@@ -297,24 +351,17 @@ fn image_with(slot_at: usize, widths: &[usize], field: usize, value: u64) -> Vec
 /// with a question and a withdrawal; and each sum, with one record of every kind.
 fn field_frames() -> Vec<Frame> {
     let mut frames = Vec::new();
-    let mut add = |slot_at, widths: &[usize], index, field: &Field| {
-        for value in trial_values(&mut Chance::new(0), field, field.stored_bits()) {
-            let image = image_with(slot_at, widths, index, value as u64);
-            frames.extend(frames_on(&image, &looks()));
-        }
-    };
     for (slot, fields) in [(0, &UNCUT_SLOT), (4, &BETWEEN_SLOT)] {
+        let at = source_at(slot);
         for field in fields {
-            add(source_at(slot), &SOURCE_BYTES, source_index(field), field);
+            let images = images_with(at, &SOURCE_BYTES, source_index(field), field);
+            frames.extend(images.iter().flat_map(|image| looks(image, slot)));
         }
     }
     for field in &RECEIVER_FIELDS[1..] {
-        add(
-            receiver_at(5),
-            &RECEIVER_BYTES,
-            receiver_index(field),
-            field,
-        );
+        let at = receiver_at(5);
+        let images = images_with(at, &RECEIVER_BYTES, receiver_index(field), field);
+        frames.extend(images.iter().flat_map(|image| looks(image, 4)));
     }
     for sum in sum_edges() {
         for field in SUMS..RECEIVER_BYTES.len() {
@@ -325,23 +372,30 @@ fn field_frames() -> Vec<Frame> {
     frames
 }
 
-/// A question and the withdrawals of both sources of the worked case.
-fn looks() -> [Record; 3] {
-    [
-        Record::Ask(5),
-        Record::WithdrawSource(0),
-        Record::WithdrawSource(4),
-    ]
+/// The worked case with one field of a slot at every value worth trying.
+fn images_with(slot_at: usize, widths: &[usize], index: usize, field: &Field) -> Vec<Vec<u8>> {
+    let values = trial_values(&mut Chance::new(0), field, field.stored_bits()).into_iter();
+    values
+        .map(|value| image_with(slot_at, widths, index, value as u64))
+        .collect()
 }
 
-/// Probes of courses: sources between two ends of every kind tried, and every byte that may say how
+/// Probes of a stored state by a question, and by the withdrawal of a source.
+fn looks(image: &[u8], slot: usize) -> Vec<Frame> {
+    frames_on(
+        image,
+        &[Record::Ask(5), Record::WithdrawSource(slot as i64)],
+    )
+}
+
+/// Probes of courses: sources between two ends placed and standing, and every byte that may say how
 /// four numbers are to be taken, where they can be taken in either way.
 fn course_frames() -> Vec<Frame> {
-    let mut frames = Vec::new();
-    for record in laid_records() {
+    let mut frames = frames_on(&example_image(), &worked_records());
+    for source in laid_sources() {
         let mut book = decode(&example_image()).expect("the worked case is sound");
-        book.sources[4] = record.source();
-        frames.extend(frames_on(&encode(&book), &looks()));
+        book.sources[4] = Some(source);
+        frames.extend(looks(&encode(&book), 4));
     }
     for told in [0, 1, 2, 3, 127, 128, 254, 255] {
         for last in [0, 1, 256, 65_536] {
@@ -349,7 +403,7 @@ fn course_frames() -> Vec<Frame> {
             for (index, value) in [told, 2000, 3000, 1000, last].into_iter().enumerate() {
                 set_field(&mut image, source_at(4), &SOURCE_BYTES, index, value);
             }
-            frames.extend(frames_on(&image, &looks()));
+            frames.extend(looks(&image, 4));
         }
     }
     frames

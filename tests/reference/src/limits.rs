@@ -13,7 +13,6 @@ use crate::road::{
     FARTHEST_SQUARE, FAST_ABOVE, FAST_SURFACE, FLAT, NEAREST_SQUARE, SOURCE_HEIGHT,
     SURFACE_COLUMNS, TRUCK_SPEEDS,
 };
-use crate::town::road;
 use std::sync::LazyLock;
 
 /// How a source lies from a receiver of a certain height.
@@ -160,7 +159,6 @@ pub fn loud_road(chance: &mut Chance) -> Source {
         wall_spacing: 1500,
         traffic: [Traffic::default(); 3],
         reflection: REFLECTION.least(),
-        ..road(chance)
     }
 }
 

@@ -537,13 +537,13 @@ fn receivers_that_come_late_hear_the_same_pieces() {
 fn sums_that_do_not_hold_all_pieces_are_late_damage() {
     let road = northward(101_000, 99_001, 101_000);
     let shares = heard(&road).0;
-    for period in 0..3 {
+    for (period, share) in shares.into_iter().enumerate() {
         let mut book = with_receiver();
         book.place_source(0, &road).unwrap();
         book.accounts[5].as_mut().unwrap().sums[period] -= 1;
         assert_eq!(book.withdraw_source(0), Err(refused(1, 0)));
         let mut book = with_receiver();
-        book.accounts[5].as_mut().unwrap().sums[period] = TOP - shares[period] + 1;
+        book.accounts[5].as_mut().unwrap().sums[period] = TOP - share + 1;
         assert_eq!(book.place_source(0, &road), Err(refused(1, 0)));
         book.accounts[5].as_mut().unwrap().sums[period] -= 1;
         assert_eq!(book.place_source(0, &road), Ok(()));
