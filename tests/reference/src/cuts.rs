@@ -196,13 +196,17 @@ fn leading(chance: &mut Chance) -> (Receiver, Source) {
     (receiver, on(course, some_road(chance)))
 }
 
-/// A road whose middle is too near although its halves may not be, or are as well.
+/// A road abreast of the receiver whose middle is too near although its halves are not, or are as
+/// well, or that is just so short that it has no halves.
 fn over(chance: &mut Chance) -> (Receiver, Source) {
     let receiver = somewhere(chance);
     let nearest = nearest_on_map(&receiver);
-    let length = chance.between(2 * SHORT - 40, 2 * SHORT + 3);
+    let length = match chance.between(0, 2) {
+        0 => chance.between(SHORT - 1, SHORT + 2),
+        _ => chance.between(2 * SHORT - 40, 2 * SHORT + 3),
+    };
     let (dx, dy) = span(chance, length);
-    let away = chance.between(nearest - 40, nearest + 2);
+    let away = nearest + 2 - chance.magnitude(40);
     let middle = Point {
         x: receiver.x - dy * away / length,
         y: receiver.y + dx * away / length,

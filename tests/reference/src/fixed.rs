@@ -8,12 +8,13 @@ use crate::cuts::{corner_roads, stretched_roads};
 use crate::daily::Daily;
 use crate::fields::{
     Field, BETWEEN_COURSE, CAR_SPEED, GRADIENT, LENGTH, MINUS, RECEIVERS, RECEIVER_FIELDS, SOURCES,
-    SOURCE_SLOT, SURFACE, VEHICLES, WALLS, WALL_HEIGHT, WALL_SPACING,
+    SOURCE_SLOT, STEEPEST, SURFACE, TRUCKS, TRUCK_SPEED, VEHICLES, WALLS, WALL_HEIGHT,
+    WALL_SPACING,
 };
 use crate::limits::{trial_values, TURNING_SPEEDS};
 use crate::probe::{Frame, LONGEST_IMAGE};
 use crate::record::{kind_byte, spare_bits, unlisted_kinds, Record};
-use crate::road::{Receiver, Source, FAST_ABOVE, FAST_SURFACE};
+use crate::road::{Receiver, Source, Traffic, FAST_ABOVE, FAST_SURFACE};
 use crate::store::{
     receiver_at, receiver_index, set_field, source_at, source_index, BETWEEN_SLOT, RECEIVER_BYTES,
     RECEIVER_SIZE, SOURCE_BYTES, SOURCE_SIZE, STORE_SIZE, SUMS, UNCUT_SLOT,
@@ -181,7 +182,7 @@ fn laid_records() -> Vec<Record> {
 }
 
 /// Ends of roads beside the receiver of the worked case that are cut or just not, heard or just not.
-const WORKED_ENDS: [[i64; 4]; 14] = [
+const WORKED_ENDS: [[i64; 4]; 16] = [
     // at 25 m, where an uncut one would be refused 12 or just not
     [102_500, 99_369, 102_500, 100_631],
     [102_500, 99_369, 102_500, 100_632],
@@ -192,6 +193,9 @@ const WORKED_ENDS: [[i64; 4]; 14] = [
     [100_340, 99_875, 100_340, 100_125],
     [100_340, 99_875, 100_340, 100_126],
     [100_360, 99_875, 100_360, 100_126],
+    // the same with their middle so near that it matters
+    [100_357, 99_875, 100_357, 100_125],
+    [100_357, 99_875, 100_357, 100_126],
     // with their own middle too near and with halves that are not, or just are
     [100_340, 99_750, 100_340, 100_250],
     [100_335, 99_750, 100_335, 100_250],
@@ -204,22 +208,36 @@ const WORKED_ENDS: [[i64; 4]; 14] = [
     [245_000, 100_000, 335_000, 100_000],
 ];
 
-/// Records that place such roads, from either end, as the worked case has them, very busy, and with
-/// nothing on them.
+/// A source as loud as there is.
+fn loudest_source() -> Source {
+    let mut source = Source {
+        car_speed: CAR_SPEED.most(),
+        truck_speed: TRUCK_SPEED.most(),
+        surface: FAST_SURFACE - 1,
+        gradient: STEEPEST,
+        wall_height: WALL_HEIGHT.most(),
+        ..walled_source()
+    };
+    source.traffic = [Traffic {
+        vehicles: VEHICLES.most(),
+        trucks: TRUCKS.most(),
+    }; 3];
+    source
+}
+
+/// Records that place such roads, from either end, as the worked case has them, as loud as there is,
+/// and with nothing on them.
 fn worked_records() -> Vec<Record> {
+    let silent = Source {
+        traffic: [Traffic::default(); 3],
+        ..walled_source()
+    };
     let mut records = Vec::new();
     for [x1, y1, x2, y2] in WORKED_ENDS {
         let course = Course::between(x1, y1, x2, y2);
-        for vehicles in [None, Some(0), Some(VEHICLES.most())] {
+        for road in [walled_source(), loudest_source(), silent] {
             for course in [course, course.reversed()] {
-                let mut source = Source {
-                    course,
-                    ..walled_source()
-                };
-                for traffic in &mut source.traffic {
-                    traffic.vehicles = vehicles.unwrap_or(traffic.vehicles);
-                }
-                records.push(Record::PlaceSource(3, source));
+                records.push(Record::PlaceSource(3, Source { course, ..road }));
             }
         }
     }
