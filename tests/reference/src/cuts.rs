@@ -66,29 +66,30 @@ pub fn spanned(middle: Point, (dx, dy): Span) -> Course {
     Course::between(x, y, x + dx, y + dy)
 }
 
-/// A course made twice as long on one side, so often, as far as lengths are allowed: halved again,
-/// it has the old one as a half. Where a sum of coordinates is odd it is their mean, down, that counts.
-pub fn grown(chance: &mut Chance, course: Course, times: i64) -> Course {
-    let mut course = course;
+/// A course made twice as long at its second end: halved, it has the old one as its first half,
+/// also where the mean of its ends is taken down.
+fn doubled(chance: &mut Chance, course: Course) -> Course {
+    let Course::Between { first, second } = course else {
+        return course;
+    };
+    let beyond = Point {
+        x: 2 * second.x - first.x + chance.between(0, 1),
+        y: 2 * second.y - first.y + chance.between(0, 1),
+    };
+    Course::Between {
+        first,
+        second: beyond,
+    }
+}
+
+/// A course made twice as long so often, on either side, as far as lengths are allowed.
+fn grown(chance: &mut Chance, mut course: Course, times: i64) -> Course {
     for _ in 0..times {
-        let Course::Between { first, second } = course else {
-            return course;
-        };
-        let beyond = |end: Point, other: Point, chance: &mut Chance| Point {
-            x: 2 * end.x - other.x + chance.between(0, 1),
-            y: 2 * end.y - other.y + chance.between(0, 1),
-        };
-        let longer = if chance.one_in(2) {
-            let second = beyond(second, first, chance);
-            Course::Between { first, second }
-        } else {
-            let first = beyond(first, second, chance);
-            Course::Between { first, second }
-        };
+        let longer = doubled(chance, course);
         if !LENGTH.allows(longer.length()) {
             return course;
         }
-        course = longer;
+        course = chance.pick(&[longer, longer.reversed()]);
     }
     course
 }
@@ -157,6 +158,13 @@ pub fn receiver_beside(chance: &mut Chance, course: &Course, away: i64) -> Recei
     }
 }
 
+/// The course of a road of a length past the receiver, so far away.
+fn past(chance: &mut Chance, receiver: &Receiver, length: i64, away: i64) -> Course {
+    let course = spanned(Point::default(), span(chance, length));
+    let here = beside(chance, &course, away);
+    course.moved(receiver.x - here.x, receiver.y - here.y)
+}
+
 /// A road past the receiver, at just about the nearest way, somewhat farther, or anywhere.
 fn passing(chance: &mut Chance) -> (Receiver, Source) {
     let receiver = somewhere(chance);
@@ -167,10 +175,7 @@ fn passing(chance: &mut Chance) -> (Receiver, Source) {
         _ => nearest + chance.magnitude(90_000),
     };
     let length = chance.magnitude(LENGTH.most());
-    let span = span(chance, length);
-    let course = spanned(Point::default(), span);
-    let here = beside(chance, &course, away);
-    let course = course.moved(receiver.x - here.x, receiver.y - here.y);
+    let course = past(chance, &receiver, length, away);
     (receiver, on(course, some_road(chance)))
 }
 
@@ -180,18 +185,11 @@ fn leading(chance: &mut Chance) -> (Receiver, Source) {
     let length = chance.between(1, 400) + chance.magnitude(LENGTH.most() - 400);
     let (dx, dy) = span(chance, length);
     let gap = nearest_on_map(&receiver) + chance.between(-200, 60);
-    let end = Point {
-        x: receiver.x + dx * gap / length,
-        y: receiver.y + dy * gap / length,
-    };
-    let other = Point {
-        x: end.x + dx,
-        y: end.y + dy,
-    };
-    let course = Course::Between {
-        first: end,
-        second: other,
-    };
+    let (x, y) = (
+        receiver.x + dx * gap / length,
+        receiver.y + dy * gap / length,
+    );
+    let course = Course::between(x, y, x + dx, y + dy);
     let course = chance.pick(&[course, course.reversed()]);
     (receiver, on(course, some_road(chance)))
 }
@@ -259,14 +257,11 @@ fn halved(chance: &mut Chance) -> (Receiver, Source) {
 
 /// A road of a length at which it is treated otherwise, near enough to be cut if it can be.
 fn stretched(chance: &mut Chance) -> (Receiver, Source) {
+    let receiver = somewhere(chance);
     let length = chance.pick(&TURNING_LENGTHS);
-    let (receiver, source) = passing(chance);
-    let span = span(chance, length);
-    let course = spanned(Point::default(), span);
     let away = nearest_on_map(&receiver) + chance.magnitude(100);
-    let here = beside(chance, &course, away);
-    let course = course.moved(receiver.x - here.x, receiver.y - here.y);
-    (receiver, on(course, source))
+    let course = past(chance, &receiver, length, away);
+    (receiver, on(course, some_road(chance)))
 }
 
 /// A road whose pieces together bring just as much as they may in one period or in all, or just
@@ -274,11 +269,8 @@ fn stretched(chance: &mut Chance) -> (Receiver, Source) {
 fn loud(chance: &mut Chance) -> (Receiver, Source) {
     let receiver = somewhere(chance);
     let length = chance.between(300, 1000) + chance.magnitude(5000);
-    let span = span(chance, length);
-    let course = spanned(Point::default(), span);
     let away = nearest_on_map(&receiver) + chance.between(1, 200);
-    let here = beside(chance, &course, away);
-    let course = course.moved(receiver.x - here.x, receiver.y - here.y);
+    let course = past(chance, &receiver, length, away);
     let mut source = on(course, loud_road(chance));
     let special = chance.between(0, 3) as usize;
     for period in 0..3 {

@@ -181,11 +181,14 @@ fn laid_records() -> Vec<Record> {
     records
 }
 
-/// Ends of roads beside the receiver of the worked case that are cut or just not, heard or just not.
-const WORKED_ENDS: [[i64; 4]; 16] = [
+/// Ends of roads beside the receiver of the worked case: cut or just not, heard or just not.
+const WORKED_ENDS: [[i64; 4]; 18] = [
     // at 25 m, where an uncut one would be refused 12 or just not
     [102_500, 99_369, 102_500, 100_631],
     [102_500, 99_369, 102_500, 100_632],
+    // just half as long as their distance, 1250, and one longer
+    [101_200, 99_688, 101_200, 100_313],
+    [101_200, 99_687, 101_200, 100_313],
     // with odd sums of coordinates, upright and slanting
     [101_000, 99_001, 101_000, 101_000],
     [101_001, 99_000, 102_000, 100_001],
@@ -225,8 +228,8 @@ fn loudest_source() -> Source {
     source
 }
 
-/// Records that place such roads, from either end, as the worked case has them, as loud as there is,
-/// and with nothing on them.
+/// Records that place such roads, from either end, as the worked case has them, as loud as there
+/// is, and with nothing on them.
 fn worked_records() -> Vec<Record> {
     let silent = Source {
         traffic: [Traffic::default(); 3],

@@ -181,7 +181,7 @@ pub fn tuned(source: &Source, receiver: &Receiver, period: usize, level: i64) ->
     least(VEHICLES.most(), lifts)
 }
 
-/// The least traffic with which a source brings at least the given share in one period, if any does.
+/// The least traffic that lifts one period's share to the given one at least, if any does.
 pub fn tuned_share(source: &Source, receiver: &Receiver, period: usize, share: i64) -> Option<i64> {
     let enough = |vehicles| {
         let mut source = *source;

@@ -2,7 +2,7 @@
 // Number 7 is not among them: no allowed speeds make a truck quieter than a car.
 
 use reference::book::{decode, Answer, Book};
-use reference::fields::{Field, CAR_SPEED, SURFACE};
+use reference::fields::{Field, CAR_SPEED, LENGTH, SURFACE};
 use reference::fixed::{fixed_frames, fixed_jobs};
 use reference::jobs::job;
 use reference::listing::{list, Tally};
@@ -217,7 +217,7 @@ fn named_although(kind: u8, field: &Field, wrong: impl Fn(&Record) -> bool) -> b
 
 #[test]
 fn fixed_writings_of_sources_have_more_than_one_field_wrong() {
-    for kind in [3, 6] {
+    for kind in [3, 6, 7] {
         let fields = fields_of(kind).unwrap();
         for pair in fields.windows(2) {
             let next_wrong = |record: &Record| !pair[1].allows(record.value(&pair[1]));
@@ -229,6 +229,8 @@ fn fixed_writings_of_sources_have_more_than_one_field_wrong() {
         };
         assert!(named_although(kind, &fields[fields.len() - 1], slow));
     }
+    let no_speed = |record: &Record| record.value(&CAR_SPEED) == 0;
+    assert!(named_although(7, &LENGTH, no_speed));
 }
 
 #[test]

@@ -1,5 +1,5 @@
-// Roads between two ends: pieces, shares and answers worked out by hand, a record, a slot and a call
-// to write given as bytes, and every refusal with its place.
+// Roads between two ends: pieces, shares and answers worked out by hand, a record, a slot and a
+// call to write given as bytes, and every refusal with its place.
 
 use reference::book::{apply_stored, decode, encode, Answer, Book, Levels, TOP};
 use reference::course::{pieces, Course};
@@ -10,7 +10,7 @@ use reference::fields::{
 };
 use reference::fixed::{example_receiver, example_source};
 use reference::level::{energy, level};
-use reference::record::{read, write, Record};
+use reference::record::{fields_of, read, write, Record};
 use reference::road::{Receiver, Refusal, Source, Traffic, GREATEST_SHARE};
 use reference::store::source_at;
 use reference::writing::Writing;
@@ -105,6 +105,17 @@ fn the_case_at_25_m_is_cut_where_it_was_refused_12() {
 }
 
 #[test]
+fn a_road_of_just_half_its_distance_is_not_cut() {
+    // 1200^2 + 350^2 = 1250^2, and the half of 1250 is 625
+    let road = northward(101_200, 99_688, 100_313);
+    assert_eq!(cut(&road), [(625, 1_562_500)]);
+    assert_eq!(heard(&road), heard(&road.uncut(625)));
+    // one longer: halves of 313 with their middles at y 99843 (99843.5 down) and 100156
+    let road = northward(101_200, 99_687, 100_313);
+    assert_eq!(cut(&road), [(313, 1_587_149), (313, 1_586_836)]);
+}
+
+#[test]
 fn a_road_at_10_m_is_cut_into_four() {
     // l 1999, middle at y 100000 (100000.5 down), Q 1122500: cut. South: y 99001 to 100000, l 999,
     // middle 99500, Q 1372500: cut, into l 499 with its middle at 99250 and l 500 at 99750.
@@ -131,10 +142,10 @@ fn a_road_at_10_m_is_cut_into_four() {
 fn means_and_lengths_are_taken_down_in_slanting_roads() {
     // from (101001, 99000) to (102000, 100001): dx 999, dy 1001, l 1414 (1414.21); the middle is
     // (101500, 99500), both .5 down: Q = 1500^2 + 500^2 + 350^2 = 2622500, 4 l^2 = 7997584: cut.
-    // (101001, 99000) to (101500, 99500): 499, 500, l 706 (706.4), middle (101250, 99250), .5 down:
-    // Q = 1250^2 + 750^2 + 350^2 = 2247500 and 4 l^2 = 1993744: not cut.
-    // (101500, 99500) to (102000, 100001): 500, 501, l 707 (707.8), middle (101750, 99750), .5 down:
-    // Q = 1750^2 + 250^2 + 350^2 = 3247500
+    // (101001, 99000) to (101500, 99500): 499, 500, l 706 (706.4), middle (101250, 99250), x .5
+    // down: Q = 1250^2 + 750^2 + 350^2 = 2247500 and 4 l^2 = 1993744: not cut.
+    // (101500, 99500) to (102000, 100001): 500, 501, l 707 (707.8), middle (101750, 99750), y .5
+    // down: Q = 1750^2 + 250^2 + 350^2 = 3247500
     let road = on(Course::between(101_001, 99_000, 102_000, 100_001));
     assert_eq!(cut(&road), [(706, 2_247_500), (707, 3_247_500)]);
     assert_eq!(cut(&reversed(&road)), [(707, 3_247_500), (706, 2_247_500)]);
@@ -221,7 +232,7 @@ fn loud_road(vehicles: i64) -> Source {
 
 #[test]
 fn all_pieces_together_may_bring_10_to_the_15() {
-    // LP = 2770 + 7268 - 6000 = 4038 and Dv = 308; surface 600, gradient 420, walls 320, length 397,
+    // LP = 2770 + 7268 - 6000 = 4038, Dv = 308; surface 600, gradient 420, walls 320, length 397,
     // Ds = 5404 - 4000 + 2 - 1120 = 286, ground and weather 0. For a share level of 8699, L25 is
     // 6940 and lv(M) 6210, and Z[210] is 1621810: one vehicle's thousandth less makes it 8698
     let sums = |vehicles| {
@@ -345,6 +356,15 @@ const STREET: [u8; 34] = [
     0xa0, 0xcc, 0x4b, 0x02, 0x58, 0x00, 0xb5, 0xa4, 0x0c, 0x80, 0x1e, 0xc3, 0x02, 0x08, 0x02, 0x03,
     0xa0, 0x3c,
 ];
+
+#[test]
+fn fields_after_the_ends_are_those_of_any_source() {
+    let fields = street().fields();
+    let numbers = fields.iter().map(|field| field.number);
+    assert!(numbers.eq([1, 2, 3, 2, 3].into_iter().chain(5..=19)));
+    assert!(fields[1..5].iter().all(|field| field.bits == 24));
+    assert_eq!(fields[5..], fields_of(3).unwrap()[4..]);
+}
 
 #[test]
 fn a_record_given_as_bytes_comes_back() {

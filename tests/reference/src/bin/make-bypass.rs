@@ -1,5 +1,5 @@
-// Prints the example job: a bypass that bends around a village, in ten roads from node to node that the
-// book cuts, and a side street. One receiver is placed on the road itself, to show a refusal (10).
+// Prints the example job: a bypass that bends around a village, in ten roads which the book cuts,
+// and a side street. One receiver is placed on the road itself, to show a refusal (10).
 
 use reference::course::Course;
 use reference::daily::Daily;
