@@ -36,9 +36,10 @@ impl Daily {
 
     /// The fields 2 to 15, in their order.
     pub fn fields(&self) -> Vec<i64> {
+        let of_its_own = [self.class, self.dtv];
         let mut fields = self.road.fields();
-        fields.truncate(DAILY_FIELDS.len() - 3);
-        fields.extend([self.class, self.dtv]);
+        fields.truncate(DAILY_FIELDS.len() - 1 - of_its_own.len());
+        fields.extend(of_its_own);
         fields
     }
 
