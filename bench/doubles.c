@@ -7,16 +7,23 @@
 
 enum { SOURCES = 512, RECEIVERS = 64, PERIODS = 3 };
 
+struct point {
+    double x, y;
+};
+
+/* A road by its middle and length or, if it is cut, by its ends; what a metre of it sends out. */
 struct source {
-    int used;
-    double x, y, length;
+    int used, is_cut;
+    struct point middle, first, second;
+    double length;
     double emission[PERIODS];
     int drives[PERIODS];
 };
 
 struct receiver {
     int used;
-    double x, y, height;
+    struct point place;
+    double height;
     double sum[PERIODS];
 };
 
@@ -73,12 +80,55 @@ static double speed_term(double cars, double trucks, double percent)
     return car - 37.3 + 10 * log10(mixed / (100 + 8.23 * percent));
 }
 
-static void read_source(struct source *s, struct bits *bits)
+struct traffic {
+    double flow[PERIODS], percent[PERIODS];
+};
+
+static struct traffic take_traffic(struct bits *bits)
+{
+    struct traffic traffic;
+    for (int period = 0; period < PERIODS; period++) {
+        traffic.flow[period] = take(bits, 24) / 1000.0;
+        traffic.percent[period] = take(bits, 10) / 10.0;
+    }
+    return traffic;
+}
+
+static struct traffic take_daily(struct bits *bits)
+{
+    static const double shares[4][PERIODS] = {
+        {0.062, 0.042, 0.014}, {0.062, 0.042, 0.011}, {0.062, 0.042, 0.008}, {0.062, 0.042, 0.011}};
+    static const double percents[4][PERIODS] = {
+        {25, 35, 45}, {20, 20, 20}, {20, 15, 10}, {10, 6.5, 3}};
+    long class = take(bits, 2);
+    double daily = take(bits, 18);
+    struct traffic traffic;
+    for (int period = 0; period < PERIODS; period++) {
+        traffic.flow[period] = shares[class][period] * daily;
+        traffic.percent[period] = percents[class][period];
+    }
+    return traffic;
+}
+
+static struct point take_point(struct bits *bits)
+{
+    struct point point;
+    point.x = take(bits, 24) / 100.0;
+    point.y = take(bits, 24) / 100.0;
+    return point;
+}
+
+static void read_source(struct source *s, struct bits *bits, long kind)
 {
     static const double reflections[5] = {0, -1, -2, -4, -8};
-    s->x = take(bits, 24) / 100.0;
-    s->y = take(bits, 24) / 100.0;
-    s->length = take(bits, 17) / 100.0;
+    s->is_cut = kind == 7;
+    if (s->is_cut) {
+        s->first = take_point(bits);
+        s->second = take_point(bits);
+    } else {
+        s->middle = take_point(bits);
+        s->length = take(bits, 17) / 100.0;
+    }
     int lanes = take(bits, 1) ? 2 : 1;
     double cars = clamp(take(bits, 8), 30, 130);
     double trucks = clamp(take(bits, 8), 30, 80);
@@ -89,10 +139,11 @@ static void read_source(struct source *s, struct bits *bits)
     long walls = take(bits, 2);
     double height = take(bits, 12);
     double spacing = take(bits, 14);
-    fixed += wall_term(walls, height, spacing) + 10 * log10(s->length);
+    fixed += wall_term(walls, height, spacing);
+    struct traffic traffic = kind == 6 ? take_daily(bits) : take_traffic(bits);
     for (int period = 0; period < PERIODS; period++) {
-        double flow = take(bits, 24) / 1000.0 / lanes;
-        double percent = take(bits, 10) / 10.0;
+        double flow = traffic.flow[period] / lanes;
+        double percent = traffic.percent[period];
         s->drives[period] = flow > 0;
         if (flow > 0)
             s->emission[period] = 37.3 + 10 * log10(flow * (1 + 0.082 * percent)) +
@@ -101,14 +152,28 @@ static void read_source(struct source *s, struct bits *bits)
     s->used = 1;
 }
 
-/* Adds (sign 1) or takes away (sign -1) what a source brings to a receiver. */
-static void account(const struct source *s, struct receiver *r, double sign)
+/* The squared distance of a receiver from a place on the road, on the map. */
+static double square_on_map(const struct receiver *r, struct point place)
 {
-    double dx = s->x - r->x, dy = s->y - r->y, dz = r->height - 0.5;
-    double on_map = sqrt(dx * dx + dy * dy);
-    double way = sqrt(dx * dx + dy * dy + dz * dz);
+    double dx = place.x - r->place.x, dy = place.y - r->place.y;
+    return dx * dx + dy * dy;
+}
+
+/* The same in space. */
+static double square_in_space(const struct receiver *r, double on_map)
+{
+    double dz = r->height - 0.5;
+    return on_map + dz * dz;
+}
+
+/* Adds (sign 1) or takes away (sign -1) what a piece of a source brings to a receiver. */
+static void piece(const struct source *s, struct receiver *r, double length, double square_map,
+                  double sign)
+{
+    double square = square_in_space(r, square_map);
+    double on_map = sqrt(square_map), way = sqrt(square);
     double heights = r->height + 0.5;
-    double lost = 20 * log10(way) + way / 200 - 11.2;
+    double lost = way / 200 - 11.2 - 10 * log10(length / square);
     lost += fmax(0, 4.8 - heights / 2 / way * (34 + 600 / way));
     double part = on_map > 10 * heights ? 1 - 10 * heights / on_map : 0;
     for (int period = 0; period < PERIODS; period++) {
@@ -120,11 +185,35 @@ static void account(const struct source *s, struct receiver *r, double sign)
     }
 }
 
+/* The same for all pieces between two ends, each halved while it is long for its distance. */
+static void pieces(const struct source *s, struct receiver *r, struct point first,
+                   struct point second, double sign)
+{
+    struct point middle = {(first.x + second.x) / 2, (first.y + second.y) / 2};
+    double dx = second.x - first.x, dy = second.y - first.y;
+    double square_length = dx * dx + dy * dy;
+    double square_map = square_on_map(r, middle);
+    if (4 * square_length > square_in_space(r, square_map) && square_length > 2.5 * 2.5) {
+        pieces(s, r, first, middle, sign);
+        pieces(s, r, middle, second, sign);
+    } else {
+        piece(s, r, sqrt(square_length), square_map, sign);
+    }
+}
+
+/* Adds (sign 1) or takes away (sign -1) what a source brings to a receiver. */
+static void account(const struct source *s, struct receiver *r, double sign)
+{
+    if (s->is_cut)
+        pieces(s, r, s->first, s->second, sign);
+    else
+        piece(s, r, s->length, square_on_map(r, s->middle), sign);
+}
+
 static void place_receiver(struct bits *bits)
 {
     struct receiver *r = &receivers[take(bits, 6)];
-    r->x = take(bits, 24) / 100.0;
-    r->y = take(bits, 24) / 100.0;
+    r->place = take_point(bits);
     r->height = take(bits, 9) / 100.0;
     r->used = 1;
     for (int period = 0; period < PERIODS; period++)
@@ -141,10 +230,10 @@ static void change_source(struct source *s, double sign)
             account(s, &receivers[slot], sign);
 }
 
-static void place_source(struct bits *bits)
+static void place_source(struct bits *bits, long kind)
 {
     struct source *s = &sources[take(bits, 9)];
-    read_source(s, bits);
+    read_source(s, bits, kind);
     change_source(s, 1);
 }
 
@@ -190,14 +279,14 @@ static unsigned char *read_job(size_t *length)
 
 int main(void)
 {
-    static const int lengths[6] = {0, 9, 2, 30, 2, 2};
+    static const int lengths[8] = {0, 9, 2, 30, 2, 2, 20, 34};
     size_t length, at = 0;
     unsigned char *job = read_job(&length);
     long number = 0;
     while (job && at < length) {
         struct bits bits = {job + at, 0, 0};
         long kind = take(&bits, 4);
-        if (kind < 1 || kind > 5)
+        if (kind < 1 || kind > 7)
             break;
         at += lengths[kind];
         number++;
@@ -205,12 +294,12 @@ int main(void)
             place_receiver(&bits);
         else if (kind == 2)
             receivers[take(&bits, 6)].used = 0;
-        else if (kind == 3)
-            place_source(&bits);
         else if (kind == 4)
             withdraw_source(&bits);
-        else
+        else if (kind == 5)
             ask(number, &bits);
+        else
+            place_source(&bits, kind);
     }
     printf("END %ld\n", number);
     free(job);

@@ -6,8 +6,8 @@ use crate::fields::{RECEIVERS, RECEIVER_SLOT, SOURCES, SOURCE_SLOT};
 use crate::level::{energy, level};
 use crate::record::{read, Record};
 use crate::road::{
-    emission, judge_receiver, judge_slot, judge_source, refusal, shares, Receiver, Refusal, Shares,
-    Source, GREATEST_SHARE,
+    emission, judge_receiver, judge_source, judge_value, refusal, shares, Receiver, Refusal,
+    Shares, Source, GREATEST_SHARE,
 };
 
 pub use crate::store::{decode, encode};
@@ -109,7 +109,7 @@ impl Book {
     }
 
     pub fn place_source(&mut self, slot: i64, source: &Source) -> Result<(), Refusal> {
-        judge_slot(slot, &SOURCE_SLOT)?;
+        judge_value(slot, &SOURCE_SLOT)?;
         judge_source(source)?;
         if self.sources[slot as usize].is_some() {
             return Err(refusal(8));
@@ -123,13 +123,13 @@ impl Book {
 
     /// Places the source that a daily figure stands for.
     pub fn place_daily(&mut self, slot: i64, daily: &Daily) -> Result<(), Refusal> {
-        judge_slot(slot, &SOURCE_SLOT)?;
+        judge_value(slot, &SOURCE_SLOT)?;
         judge_daily(daily)?;
         self.place_source(slot, &daily.source())
     }
 
     pub fn withdraw_source(&mut self, slot: i64) -> Result<(), Refusal> {
-        judge_slot(slot, &SOURCE_SLOT)?;
+        judge_value(slot, &SOURCE_SLOT)?;
         let source = self.sources[slot as usize].ok_or(refusal(9))?;
         let round = self.round(&source).map_err(|_| DAMAGED)?;
         let sums = self.changed_sums(&round, -1)?;
@@ -139,7 +139,7 @@ impl Book {
     }
 
     pub fn place_receiver(&mut self, slot: i64, receiver: &Receiver) -> Result<(), Refusal> {
-        judge_slot(slot, &RECEIVER_SLOT)?;
+        judge_value(slot, &RECEIVER_SLOT)?;
         judge_receiver(receiver)?;
         if self.accounts[slot as usize].is_some() {
             return Err(refusal(8));
@@ -168,13 +168,13 @@ impl Book {
     }
 
     pub fn withdraw_receiver(&mut self, slot: i64) -> Result<(), Refusal> {
-        judge_slot(slot, &RECEIVER_SLOT)?;
+        judge_value(slot, &RECEIVER_SLOT)?;
         self.accounts[slot as usize].take().ok_or(refusal(9))?;
         Ok(())
     }
 
     pub fn ask(&self, slot: i64) -> Result<Levels, Refusal> {
-        judge_slot(slot, &RECEIVER_SLOT)?;
+        judge_value(slot, &RECEIVER_SLOT)?;
         let account = self.accounts[slot as usize].as_ref().ok_or(refusal(9))?;
         Ok(indices(&account.sums))
     }

@@ -1,7 +1,8 @@
 // Sources told by their daily figure: the class of the road and the vehicles of a day.
 // A table says what traffic the two stand for, and the book gets a source like any other.
 
-use crate::fields::{CLASS, DAILY_FIELDS, DTV};
+use crate::course::Course;
+use crate::fields::DAILY_FIELDS;
 use crate::road::{judge_fields, judge_source, Refusal, Source, Traffic};
 
 /// Table 2 of the VBUS, a row for each class: by day, evening and night M for one vehicle a day,
@@ -22,8 +23,10 @@ pub struct Daily {
 }
 
 impl Daily {
-    /// The road of a source, whatever its traffic is, with a class and a daily figure.
+    /// The road of an uncut source, whatever its traffic is, with a class and a daily figure.
     pub fn new(source: Source, class: i64, dtv: i64) -> Daily {
+        let uncut = matches!(source.course, Course::Uncut { .. });
+        assert!(uncut, "a daily figure comes with a middle and a length");
         let road = Source {
             traffic: [Traffic::default(); 3],
             ..source
@@ -32,19 +35,19 @@ impl Daily {
     }
 
     /// The fields 2 to 15, in their order.
-    pub fn fields(&self) -> [i64; 14] {
-        let road = self.road.fields();
-        let mut fields = std::array::from_fn(|at| road[at]);
-        fields[CLASS.index()] = self.class;
-        fields[DTV.index()] = self.dtv;
+    pub fn fields(&self) -> Vec<i64> {
+        let of_its_own = [self.class, self.dtv];
+        let mut fields = self.road.fields();
+        fields.truncate(DAILY_FIELDS.len() - 1 - of_its_own.len());
+        fields.extend(of_its_own);
         fields
     }
 
-    /// The same from its fields 2 to 15.
-    pub fn of_fields(f: [i64; 14]) -> Daily {
-        let mut road = [0; 18];
-        road[..CLASS.index()].copy_from_slice(&f[..CLASS.index()]);
-        Daily::new(Source::of_fields(road), f[CLASS.index()], f[DTV.index()])
+    /// The same from where it runs and its fields 5 to 15.
+    pub fn of_fields(course: Course, [road @ .., class, dtv]: [i64; 11]) -> Daily {
+        let mut common = [0; 15];
+        common[..road.len()].copy_from_slice(&road);
+        Daily::new(Source::of_fields(course, common), class, dtv)
     }
 
     /// The source that it stands for; its class must be allowed.
@@ -62,7 +65,7 @@ impl Daily {
 
 /// Judges the fields 2 to 15: refusals 5, 6 and 7.
 pub fn judge_daily(daily: &Daily) -> Result<(), Refusal> {
-    judge_fields(&DAILY_FIELDS, &daily.fields(), |field, value| {
+    judge_fields(&DAILY_FIELDS[1..], &daily.fields(), |field, value| {
         daily.road.allows(field, value)
     })?;
     judge_source(&daily.source())

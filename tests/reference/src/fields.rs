@@ -14,7 +14,7 @@ pub struct Field {
     pub allowed: &'static [(i64, i64)],
 }
 
-const fn field(
+pub const fn field(
     number: u16,
     name: &'static str,
     bits: u32,
@@ -45,6 +45,10 @@ pub const SOURCE_SLOT: Field = field(1, "slot", 9, &[(0, SOURCES as i64 - 1)]);
 pub const RECEIVER_SLOT: Field = field(1, "slot", 6, &[(0, RECEIVERS as i64 - 1)]);
 pub const X: Field = field(2, "x", MAP, &[(0, FARTHEST)]);
 pub const Y: Field = field(3, "y", MAP, &[(0, FARTHEST)]);
+pub const FIRST_X: Field = field(2, "x of the first end", MAP, &[(0, FARTHEST)]);
+pub const FIRST_Y: Field = field(3, "y of the first end", MAP, &[(0, FARTHEST)]);
+pub const SECOND_X: Field = field(2, "x of the second end", MAP, &[(0, FARTHEST)]);
+pub const SECOND_Y: Field = field(3, "y of the second end", MAP, &[(0, FARTHEST)]);
 pub const HEIGHT: Field = field(4, "height", 9, &[(380, 420)]);
 pub const LENGTH: Field = field(4, "length", 17, &[(1, 100_000)]);
 pub const LANES: Field = field(5, "several lanes", 1, &[(0, 1)]);
@@ -80,12 +84,12 @@ const fn trucks(number: u16) -> Field {
 pub const CLASS: Field = field(14, "class", 2, &[(0, 3)]);
 pub const DTV: Field = field(15, "DTV", 18, &[(1, 160_000)]);
 
-/// The fields of every source before those of its traffic, in their order.
-const ROAD_FIELDS: [Field; 13] = [
-    SOURCE_SLOT,
-    X,
-    Y,
-    LENGTH,
+/// Where a source runs: by its middle and length, which is not cut, or by its two ends.
+pub static UNCUT_COURSE: [Field; 3] = [X, Y, LENGTH];
+pub static BETWEEN_COURSE: [Field; 4] = [FIRST_X, FIRST_Y, SECOND_X, SECOND_Y];
+
+/// What every source is like, wherever it runs and whatever drives there.
+const ROAD_FIELDS: [Field; 9] = [
     LANES,
     CAR_SPEED,
     TRUCK_SPEED,
@@ -107,23 +111,31 @@ const TRAFFIC_FIELDS: [Field; 6] = [
     trucks(19),
 ];
 
-/// The fields of a source in their order.
-pub static SOURCE_FIELDS: [Field; 19] = on_a_road(&TRAFFIC_FIELDS);
+/// The fields 5 to 19, which every source has in the book.
+pub static COMMON_FIELDS: [Field; 15] = joined(&[&ROAD_FIELDS, &TRAFFIC_FIELDS]);
 
-/// The fields of a source that is told by its daily figure, in their order.
-pub static DAILY_FIELDS: [Field; 15] = on_a_road(&[CLASS, DTV]);
+/// The fields of a source in their order: by its middle and length, by its two ends, and by its
+/// middle and length and its daily figure.
+pub static SOURCE_FIELDS: [Field; 19] = joined(&[&[SOURCE_SLOT], &UNCUT_COURSE, &COMMON_FIELDS]);
+pub static BETWEEN_FIELDS: [Field; 20] = joined(&[&[SOURCE_SLOT], &BETWEEN_COURSE, &COMMON_FIELDS]);
+pub static DAILY_FIELDS: [Field; 15] =
+    joined(&[&[SOURCE_SLOT], &UNCUT_COURSE, &ROAD_FIELDS, &[CLASS, DTV]]);
 
-const fn on_a_road<const N: usize>(traffic: &[Field]) -> [Field; N] {
+/// Tables of fields one after the other.
+pub const fn joined<const N: usize>(tables: &[&[Field]]) -> [Field; N] {
     let mut fields = [SOURCE_SLOT; N];
-    let mut at = 0;
-    while at < N {
-        fields[at] = if at < ROAD_FIELDS.len() {
-            ROAD_FIELDS[at]
+    let (mut table, mut at, mut taken) = (0, 0, 0);
+    while taken < N {
+        if at < tables[table].len() {
+            fields[taken] = tables[table][at];
+            at += 1;
+            taken += 1;
         } else {
-            traffic[at - ROAD_FIELDS.len()]
-        };
-        at += 1;
+            table += 1;
+            at = 0;
+        }
     }
+    assert!(table + 1 == tables.len() && at == tables[table].len());
     fields
 }
 
@@ -152,9 +164,10 @@ impl Field {
         [WALL_HEIGHT.number, WALL_SPACING.number].contains(&self.number)
     }
 
-    /// Where the field is among those after the slot.
-    pub const fn index(&self) -> usize {
-        self.number as usize - 2
+    /// Where the field is in a table that has it.
+    pub fn index_in(&self, fields: &[Field]) -> usize {
+        let index = fields.iter().position(|field| field == self);
+        index.expect("the table has the field")
     }
 
     /// Bytes of the field in the store: whole ones, as few as its bits need.

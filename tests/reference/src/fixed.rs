@@ -1,20 +1,23 @@
 // Jobs and probes that are tried every time, whatever the seed is.
 // They go through what can be listed in full: cuts, kinds, limits of fields, marks, lengths.
 
-use crate::book::{encode, Book, TOP};
+use crate::book::{decode, encode, Book, TOP};
 use crate::chance::Chance;
+use crate::course::Course;
+use crate::cuts::{corner_roads, stretched_roads};
 use crate::daily::Daily;
 use crate::fields::{
-    Field, CAR_SPEED, GRADIENT, MINUS, RECEIVERS, RECEIVER_FIELDS, SOURCES, SOURCE_FIELDS,
-    SOURCE_SLOT, SURFACE, WALLS, WALL_HEIGHT, WALL_SPACING,
+    Field, BETWEEN_COURSE, CAR_SPEED, GRADIENT, LENGTH, MINUS, RECEIVERS, RECEIVER_FIELDS, SOURCES,
+    SOURCE_SLOT, STEEPEST, SURFACE, TRUCKS, TRUCK_SPEED, VEHICLES, WALLS, WALL_HEIGHT,
+    WALL_SPACING,
 };
 use crate::limits::{trial_values, TURNING_SPEEDS};
 use crate::probe::{Frame, LONGEST_IMAGE};
 use crate::record::{kind_byte, spare_bits, unlisted_kinds, Record};
-use crate::road::{Receiver, Source, FAST_ABOVE, FAST_SURFACE};
+use crate::road::{Receiver, Source, Traffic, FAST_ABOVE, FAST_SURFACE};
 use crate::store::{
-    receiver_at, set_field, source_at, RECEIVER_BYTES, RECEIVER_SIZE, SOURCE_BYTES, SOURCE_SIZE,
-    STORE_SIZE, SUMS,
+    receiver_at, receiver_index, set_field, source_at, source_index, BETWEEN_SLOT, RECEIVER_BYTES,
+    RECEIVER_SIZE, SOURCE_BYTES, SOURCE_SIZE, STORE_SIZE, SUMS, UNCUT_SLOT,
 };
 
 /// The receiver of the worked case at 25 m.
@@ -29,9 +32,7 @@ pub fn example_receiver() -> Receiver {
 /// The source of the worked case at 25 m.
 pub fn example_source() -> Source {
     let mut source = Source {
-        x: 102_500,
-        y: 100_000,
-        length: 1000,
+        course: Course::uncut(102_500, 100_000, 1000),
         car_speed: 100,
         truck_speed: 80,
         surface: 1,
@@ -53,11 +54,26 @@ fn walled_source() -> Source {
     }
 }
 
-/// Records that place a source: with its traffic, and by a daily figure as a federal road has it.
-fn both_ways(source: Source) -> [Record; 2] {
+/// The same source between two ends, south and north of its middle.
+pub(crate) fn with_ends(source: Source) -> Source {
+    let (middle, length) = (source.course.middle(), source.course.length());
+    let south = middle.y - length / 2;
+    let course = Course::between(middle.x, south, middle.x, south + length);
+    Source { course, ..source }
+}
+
+/// A source between two ends that is cut before the receiver of the worked case.
+fn cut_source() -> Source {
+    with_ends(walled_source().uncut(2600))
+}
+
+/// Records that place a source: with its traffic, by a daily figure as a federal road has it, and
+/// between two ends.
+fn every_way(source: Source) -> [Record; 3] {
     [
         Record::PlaceSource(1, source),
         Record::PlaceDaily(2, Daily::new(source, 1, 12_000)),
+        Record::PlaceSource(3, with_ends(source)),
     ]
 }
 
@@ -76,8 +92,8 @@ pub fn example() -> Vec<u8> {
 }
 
 /// One record of each kind, all fit for the worked case.
-pub(crate) fn one_of_each() -> [Record; 6] {
-    let [place_source, place_daily] = both_ways(example_source());
+pub(crate) fn one_of_each() -> [Record; 7] {
+    let [place_source, place_daily, place_between] = every_way(example_source());
     [
         Record::PlaceReceiver(6, example_receiver()),
         Record::WithdrawReceiver(5),
@@ -85,6 +101,7 @@ pub(crate) fn one_of_each() -> [Record; 6] {
         Record::WithdrawSource(0),
         Record::Ask(5),
         place_daily,
+        place_between,
     ]
 }
 
@@ -120,7 +137,7 @@ fn leftover_records() -> Vec<Vec<u8>> {
 /// worth trying in as many bits as it is to have, and with more than one field wrong.
 pub(crate) fn trial_records(bits: impl Fn(&Field) -> u32) -> Vec<Record> {
     let mut records = Vec::new();
-    let walled = both_ways(walled_source());
+    let walled = every_way(walled_source());
     for record in one_of_each().into_iter().chain(walled) {
         for field in record.fields() {
             for value in trial_values(&mut Chance::new(0), field, bits(field)) {
@@ -136,13 +153,109 @@ pub(crate) fn trial_records(bits: impl Fn(&Field) -> u32) -> Vec<Record> {
     for record in walled.map(slow) {
         records.extend(wrong_from_each(record, &bits));
     }
+    records.extend(laid_records());
+    records
+}
+
+/// Sources between two ends of every length at which they are treated otherwise, and from every
+/// corner of the map.
+fn laid_sources() -> Vec<Source> {
+    let chance = &mut Chance::new(0);
+    let mut roads = stretched_roads(chance, walled_source());
+    roads.extend(corner_roads(chance, walled_source()));
+    roads
+}
+
+/// Records that place such sources; those of a length that is not allowed also with all later
+/// fields wrong.
+fn laid_records() -> Vec<Record> {
+    let mut records = Vec::new();
+    for road in laid_sources() {
+        let record = Record::PlaceSource(3, road);
+        records.push(record);
+        if !LENGTH.allows(road.course.length()) {
+            let later = &record.fields()[1 + BETWEEN_COURSE.len()..];
+            records.extend(wrong_from(record, later, |field| field.bits));
+        }
+    }
+    records
+}
+
+/// Ends of roads beside the receiver of the worked case: cut or just not, heard or just not.
+const WORKED_ENDS: [[i64; 4]; 18] = [
+    // at 25 m, where an uncut one would be refused 12 or just not
+    [102_500, 99_369, 102_500, 100_631],
+    [102_500, 99_369, 102_500, 100_632],
+    // just half as long as their distance, 1250, and one longer
+    [101_200, 99_688, 101_200, 100_313],
+    [101_200, 99_687, 101_200, 100_313],
+    // with odd sums of coordinates, upright and slanting
+    [101_000, 99_001, 101_000, 101_000],
+    [101_001, 99_000, 102_000, 100_001],
+    // just so short that they are not cut
+    [100_340, 99_875, 100_340, 100_125],
+    [100_340, 99_875, 100_340, 100_126],
+    [100_360, 99_875, 100_360, 100_126],
+    // the same with their middle so near that it matters
+    [100_357, 99_875, 100_357, 100_125],
+    [100_357, 99_875, 100_357, 100_126],
+    // with their own middle too near and with halves that are not, or just are
+    [100_340, 99_750, 100_340, 100_250],
+    [100_335, 99_750, 100_335, 100_250],
+    [100_334, 99_750, 100_334, 100_250],
+    // with an end too near, or just not
+    [100_232, 100_000, 102_232, 100_000],
+    [100_233, 100_000, 102_233, 100_000],
+    // with an end too far, and not cut
+    [240_000, 100_000, 340_000, 100_000],
+    [245_000, 100_000, 335_000, 100_000],
+];
+
+/// A source as loud as there is.
+fn loudest_source() -> Source {
+    let mut source = Source {
+        car_speed: CAR_SPEED.most(),
+        truck_speed: TRUCK_SPEED.most(),
+        surface: FAST_SURFACE - 1,
+        gradient: STEEPEST,
+        wall_height: WALL_HEIGHT.most(),
+        ..walled_source()
+    };
+    source.traffic = [Traffic {
+        vehicles: VEHICLES.most(),
+        trucks: TRUCKS.most(),
+    }; 3];
+    source
+}
+
+/// Records that place such roads, from either end, as the worked case has them, as loud as there
+/// is, and with nothing on them.
+fn worked_records() -> Vec<Record> {
+    let silent = Source {
+        traffic: [Traffic::default(); 3],
+        ..walled_source()
+    };
+    let mut records = Vec::new();
+    for [x1, y1, x2, y2] in WORKED_ENDS {
+        let course = Course::between(x1, y1, x2, y2);
+        for road in [walled_source(), loudest_source(), silent] {
+            for course in [course, course.reversed()] {
+                records.push(Record::PlaceSource(3, Source { course, ..road }));
+            }
+        }
+    }
     records
 }
 
 /// A record with all fields wrong from one on that can be, for one field after the other.
-fn wrong_from_each(mut record: Record, bits: impl Fn(&Field) -> u32) -> Vec<Record> {
+fn wrong_from_each(record: Record, bits: impl Fn(&Field) -> u32) -> Vec<Record> {
+    wrong_from(record, record.fields(), bits)
+}
+
+/// The same for some of its fields, which are the last.
+fn wrong_from(mut record: Record, fields: &[Field], bits: impl Fn(&Field) -> u32) -> Vec<Record> {
     let mut records = Vec::new();
-    for field in record.fields().iter().rev() {
+    for field in fields.iter().rev() {
         for wrong in field.outer_edges(bits(field)) {
             record = record.with(field, wrong);
             records.push(record);
@@ -187,7 +300,7 @@ fn parade(records: &[Record]) -> Vec<u8> {
 
 /// Records that place such sources into the last slot.
 pub(crate) fn surfaced_records() -> Vec<Record> {
-    let places = surfaced_sources().into_iter().flat_map(both_ways);
+    let places = surfaced_sources().into_iter().flat_map(every_way);
     let last = |place: Record| place.with(&SOURCE_SLOT, SOURCE_SLOT.most());
     places.map(last).collect()
 }
@@ -200,6 +313,7 @@ pub fn fixed_jobs() -> Vec<Vec<u8>> {
         example(),
         parade(&trial_records(|field| field.bits)),
         parade(&surfaced_records()),
+        parade(&worked_records()),
         [example(), leftover_records().concat()].concat(),
     ];
     jobs.extend(cut_records().iter().map(after_example));
@@ -208,12 +322,13 @@ pub fn fixed_jobs() -> Vec<Vec<u8>> {
     jobs
 }
 
-/// The stored state of the worked case.
+/// The stored state of the worked case, with a source more that is cut.
 fn example_image() -> Vec<u8> {
     let mut book = Book::cleared();
     let placed = book
         .place_receiver(5, &example_receiver())
-        .and_then(|()| book.place_source(0, &walled_source()));
+        .and_then(|()| book.place_source(0, &walled_source()))
+        .and_then(|()| book.place_source(4, &cut_source()));
     assert!(placed.is_ok(), "the worked case is accepted");
     encode(&book)
 }
@@ -253,29 +368,63 @@ fn image_with(slot_at: usize, widths: &[usize], field: usize, value: u64) -> Vec
     image
 }
 
-/// Probes of fields: each of a standing source and receiver at every value worth trying, with a
-/// question and a withdrawal; and each sum, with one record of every kind.
+/// Probes of fields: each of the standing sources and the receiver at every value worth trying,
+/// with a question and a withdrawal; and each sum, with one record of every kind.
 fn field_frames() -> Vec<Frame> {
     let mut frames = Vec::new();
-    let parties = [
-        (&SOURCE_FIELDS[1..], source_at(0), &SOURCE_BYTES[..]),
-        (&RECEIVER_FIELDS[1..], receiver_at(5), &RECEIVER_BYTES[..]),
-    ];
-    for (fields, slot_at, widths) in parties {
+    for (slot, fields) in [(0, &UNCUT_SLOT), (4, &BETWEEN_SLOT)] {
+        let at = source_at(slot);
         for field in fields {
-            for value in trial_values(&mut Chance::new(0), field, field.stored_bits()) {
-                let image = image_with(slot_at, widths, field.index(), value as u64);
-                frames.extend(frames_on(
-                    &image,
-                    &[Record::Ask(5), Record::WithdrawSource(0)],
-                ));
-            }
+            let images = images_with(at, &SOURCE_BYTES, source_index(field), field);
+            frames.extend(images.iter().flat_map(|image| looks(image, slot)));
         }
+    }
+    for field in &RECEIVER_FIELDS[1..] {
+        let at = receiver_at(5);
+        let images = images_with(at, &RECEIVER_BYTES, receiver_index(field), field);
+        frames.extend(images.iter().flat_map(|image| looks(image, 4)));
     }
     for sum in sum_edges() {
         for field in SUMS..RECEIVER_BYTES.len() {
             let image = image_with(receiver_at(5), &RECEIVER_BYTES, field, sum);
             frames.extend(frames_on(&image, &one_of_each()));
+        }
+    }
+    frames
+}
+
+/// The worked case with one field of a slot at every value worth trying.
+fn images_with(slot_at: usize, widths: &[usize], index: usize, field: &Field) -> Vec<Vec<u8>> {
+    let values = trial_values(&mut Chance::new(0), field, field.stored_bits()).into_iter();
+    values
+        .map(|value| image_with(slot_at, widths, index, value as u64))
+        .collect()
+}
+
+/// Probes of a stored state by a question, and by the withdrawal of a source.
+fn looks(image: &[u8], slot: usize) -> Vec<Frame> {
+    frames_on(
+        image,
+        &[Record::Ask(5), Record::WithdrawSource(slot as i64)],
+    )
+}
+
+/// Probes of courses: sources between two ends placed and standing, and every byte that may say how
+/// four numbers are to be taken, where they can be taken in either way.
+fn course_frames() -> Vec<Frame> {
+    let mut frames = frames_on(&example_image(), &worked_records());
+    for source in laid_sources() {
+        let mut book = decode(&example_image()).expect("the worked case is sound");
+        book.sources[4] = Some(source);
+        frames.extend(looks(&encode(&book), 4));
+    }
+    for told in [0, 1, 2, 3, 127, 128, 254, 255] {
+        for last in [0, 1, 256, 65_536] {
+            let mut image = example_image();
+            for (index, value) in [told, 2000, 3000, 1000, last].into_iter().enumerate() {
+                set_field(&mut image, source_at(4), &SOURCE_BYTES, index, value);
+            }
+            frames.extend(looks(&image, 4));
         }
     }
     frames
@@ -287,22 +436,26 @@ pub(crate) fn sum_edges() -> [u64; 8] {
     [0, 1, top - 1, top, top + 1, half - 1, half, u64::MAX]
 }
 
-/// Probes of pairs of fields that hang together: surface and speed, walls and their sizes.
+/// Probes of pairs of fields that hang together, in both standing sources: surface and speed, walls
+/// and their sizes.
 fn paired_frames() -> Vec<Frame> {
     let mut frames = Vec::new();
     let mut add = |settings: &[(Field, i64)]| {
-        let mut image = example_image();
-        for (field, value) in settings {
-            set_field(
-                &mut image,
-                source_at(0),
-                &SOURCE_BYTES,
-                field.index(),
-                *value as u64,
-            );
+        for slot in [0, 4] {
+            let mut image = example_image();
+            for (field, value) in settings {
+                let index = source_index(field);
+                set_field(
+                    &mut image,
+                    source_at(slot),
+                    &SOURCE_BYTES,
+                    index,
+                    *value as u64,
+                );
+            }
+            let record = Record::Ask(5).bytes();
+            frames.push(Frame { image, record });
         }
-        let record = Record::Ask(5).bytes();
-        frames.push(Frame { image, record });
     };
     for source in surfaced_sources() {
         add(&[(CAR_SPEED, source.car_speed), (SURFACE, source.surface)]);
@@ -325,7 +478,7 @@ fn paired_frames() -> Vec<Frame> {
 /// Probes of single bytes: use marks, and every byte of slots that are not in use.
 fn byte_frames() -> Vec<Frame> {
     let mut places = Vec::new();
-    let sources = [0, 1, SOURCES - 1].map(source_at);
+    let sources = [0, 1, 4, SOURCES - 1].map(source_at);
     let receivers = [0, 5, 6, RECEIVERS - 1].map(receiver_at);
     for mark in sources.into_iter().chain(receivers) {
         places.extend([0, 1, 2, 3, 127, 128, 255].map(|byte| (mark, byte)));
@@ -367,6 +520,7 @@ fn length_frames() -> Vec<Frame> {
 pub fn fixed_frames() -> Vec<Frame> {
     let mut frames = record_frames();
     frames.extend(field_frames());
+    frames.extend(course_frames());
     frames.extend(paired_frames());
     frames.extend(byte_frames());
     frames.extend(length_frames());

@@ -1,10 +1,12 @@
 // Stored states that are not damaged but that no history has, with the calls that meet this.
 // Also pairs just at the limits, where one step decides between two answers.
 
-use crate::book::{mean_energy, Account, Book, TOP};
+use crate::book::{decode, mean_energy, Account, Book, TOP};
 use crate::chance::Chance;
+use crate::course::Course;
+use crate::cuts::{pair, receiver_beside, span, spanned};
 use crate::fields::{
-    FARTHEST, HEIGHT, RECEIVERS, RECEIVER_SLOT, SOURCES, SOURCE_SLOT, TRUCKS, VEHICLES,
+    FARTHEST, HEIGHT, LENGTH, RECEIVERS, RECEIVER_SLOT, SOURCES, SOURCE_SLOT, TRUCKS, VEHICLES,
 };
 use crate::fixed::example_receiver;
 use crate::level::{energy, level, FAINTEST};
@@ -13,7 +15,7 @@ use crate::limits::{
     NEAR_STEPS, ROOM,
 };
 use crate::probe::Frame;
-use crate::record::Record;
+use crate::record::{take, Record};
 use crate::road::{
     emission, root, shares, Receiver, Source, Traffic, FARTHEST_SQUARE, LOUDEST, NEAREST_SQUARE,
     SOURCE_HEIGHT,
@@ -22,7 +24,7 @@ use crate::stores::{fitting_record, frame_of, settled, slot_in};
 use crate::town::{placing, road, traffic, Town, WIDE};
 
 /// What a source brings to a receiver; nothing where the pair is refused.
-fn brought(source: &Source, receiver: &Receiver) -> [i64; 3] {
+fn heard_of(source: &Source, receiver: &Receiver) -> [i64; 3] {
     shares(source, &emission(source), receiver).unwrap_or([0; 3])
 }
 
@@ -38,7 +40,7 @@ pub(crate) fn low_sum(chance: &mut Chance) -> Frame {
     let source = book.sources[leaving].expect("the slot is in use");
     let odds = chance.between(1, 8);
     for account in book.accounts.iter_mut().flatten() {
-        let shares = brought(&source, &account.receiver);
+        let shares = heard_of(&source, &account.receiver);
         let period = chance.index(3);
         if chance.one_in(odds) {
             account.sums[period] = (shares[period] + chance.pick(&[-1, 0, 0, 1])).max(0);
@@ -52,13 +54,15 @@ pub(crate) fn low_sum(chance: &mut Chance) -> Frame {
 pub(crate) fn high_sum(chance: &mut Chance) -> Frame {
     let (town, mut book) = settled(chance);
     let slot = slot_in(chance, &book.sources, false);
-    let mut source = town.source(chance);
-    source.length = chance.between(1, 200);
+    let source = match chance.between(0, 2) {
+        0 => town.between(chance),
+        _ => town.source(chance).uncut(chance.between(1, 200)),
+    };
     let record = placing(chance, slot as i64, source);
     let source = record.source().expect("a source is placed");
     let at = slot_in(chance, &book.accounts, true);
     if let Some(account) = &mut book.accounts[at] {
-        let shares = brought(&source, &account.receiver);
+        let shares = heard_of(&source, &account.receiver);
         let period = chance.index(3);
         let excess = chance.between(-1, 1).min(shares[period]);
         account.sums[period] = TOP - shares[period] + excess;
@@ -95,21 +99,29 @@ fn step(chance: &mut Chance, distance: i64) -> (i64, i64) {
     (dx * chance.pick(&[-1, 1]), dy * chance.pick(&[-1, 1]))
 }
 
+/// A receiver so far from an uncut source, or beside one between two ends.
 fn receiver_at(chance: &mut Chance, source: &Source, distance: i64) -> Receiver {
+    let Course::Uncut { middle, .. } = source.course else {
+        return receiver_beside(chance, &source.course, distance);
+    };
     let (dx, dy) = step(chance, distance);
     Receiver {
-        x: (source.x + dx).clamp(0, FARTHEST),
-        y: (source.y + dy).clamp(0, FARTHEST),
+        x: (middle.x + dx).clamp(0, FARTHEST),
+        y: (middle.y + dy).clamp(0, FARTHEST),
         height: chance.edge_in(&HEIGHT),
     }
 }
 
 /// A loud road with room around it and much traffic in one period at least.
 fn meeting_road(chance: &mut Chance) -> Source {
-    let mut source = loud_road(chance);
-    source.length = chance.between(HALF_NEAREST, 10 * HALF_NEAREST);
-    source.x = chance.between(ROOM, FARTHEST - ROOM);
-    source.y = chance.between(ROOM, FARTHEST - ROOM);
+    let mut source = loud_road(chance).uncut(chance.between(HALF_NEAREST, 10 * HALF_NEAREST));
+    if chance.one_in(3) {
+        let length = HALF_NEAREST + chance.magnitude(LENGTH.most() - HALF_NEAREST);
+        source.course = spanned(source.course.middle(), span(chance, length));
+    }
+    let x = chance.between(ROOM, FARTHEST - ROOM);
+    let y = chance.between(ROOM, FARTHEST - ROOM);
+    let mut source = source.moved(x, y);
     source.traffic = [(); 3].map(|()| traffic(chance));
     source.traffic[chance.index(3)] = Traffic {
         vehicles: chance.between(VEHICLES.most() / 2, VEHICLES.most()),
@@ -118,19 +130,26 @@ fn meeting_road(chance: &mut Chance) -> Source {
     source
 }
 
+/// The same source with its ends no farther than where the map ends.
+fn on_the_map(source: Source) -> Source {
+    let Course::Between { first, second } = source.course else {
+        return source;
+    };
+    let [x1, y1, x2, y2] = [first.x, first.y, second.x, second.y].map(|c| c.clamp(0, FARTHEST));
+    let course = Course::between(x1, y1, x2, y2);
+    Source { course, ..source }
+}
+
 /// A pair that no history has, among others. The sums may be ample, so that they do not tell.
 pub(crate) fn bad_pair(chance: &mut Chance) -> Frame {
     let (town, mut book) = settled(chance);
     let slot = slot_in(chance, &book.accounts, true);
     let at = slot_in(chance, &book.sources, true);
     let old = book.sources[at].expect("the slot is in use");
-    let source = Source {
-        x: old.x,
-        y: old.y,
-        ..meeting_road(chance)
-    };
+    let middle = old.course.middle();
+    let source = on_the_map(meeting_road(chance).moved(middle.x, middle.y));
     book.sources[at] = Some(source);
-    let way = distance(chance, source.length, false);
+    let way = distance(chance, source.course.length().max(HALF_NEAREST), false);
     book.accounts[slot] = Some(Account {
         receiver: receiver_at(chance, &source, way),
         sums: ample(chance),
@@ -155,7 +174,7 @@ pub(crate) fn met_by_source(chance: &mut Chance) -> Frame {
     let mut book = Book::cleared();
     for _ in 0..chance.between(1, 6) {
         let accepted = chance.one_in(2);
-        let way = distance(chance, source.length, accepted);
+        let way = distance(chance, source.course.length(), accepted);
         let sums = if chance.one_in(5) {
             [TOP; 3]
         } else {
@@ -176,11 +195,11 @@ pub(crate) fn met_by_receiver(chance: &mut Chance) -> Frame {
     let odds = chance.between(2, 40);
     let mut book = Book::cleared();
     for _ in 0..chance.between(1, 30) {
-        let mut source = meeting_road(chance);
+        let source = meeting_road(chance);
         let accepted = !chance.one_in(odds);
-        let way = distance(chance, source.length, accepted);
+        let way = distance(chance, source.course.length(), accepted);
         let (dx, dy) = step(chance, way);
-        (source.x, source.y) = (receiver.x + dx, receiver.y + dy);
+        let source = source.moved(receiver.x + dx, receiver.y + dy);
         book.sources[chance.index(SOURCES)] = Some(source);
     }
     let slot = slot_in(chance, &book.accounts, false);
@@ -221,6 +240,35 @@ fn tight_numbers(chance: &mut Chance) -> (i64, i64) {
     }
 }
 
+/// A road between two ends and its receiver, of any kind that there is.
+pub(crate) fn cut_pair(chance: &mut Chance) -> Frame {
+    let (receiver, source) = pair(chance);
+    let frame = lone_pair(chance, receiver, Record::PlaceSource(0, source));
+    match decode(&frame.image) {
+        Some(book) if chance.one_in(2) => tight_sums(chance, book, frame),
+        _ => frame,
+    }
+}
+
+/// The same probe with the sums of every receiver just enough, or just not, for what its record
+/// adds to them or takes off.
+fn tight_sums(chance: &mut Chance, mut book: Book, frame: Frame) -> Frame {
+    let Ok((record, _)) = take(&frame.record) else {
+        return frame;
+    };
+    let (source, most) = match record {
+        Record::WithdrawSource(slot) => (book.sources[slot as usize], false),
+        _ => (record.source(), true),
+    };
+    for account in book.accounts.iter_mut().flatten() {
+        let shares = source.map_or([0; 3], |source| heard_of(&source, &account.receiver));
+        let period = chance.index(3);
+        let share = shares[period] + chance.pick(&[-1, -1, 0, 1]);
+        account.sums[period] = if most { TOP - share } else { share }.clamp(0, TOP);
+    }
+    frame_of(&book, &record)
+}
+
 /// A pair whose squared distance is just at a limit or one step beside it.
 pub(crate) fn tight_square(chance: &mut Chance) -> Frame {
     let (square, length) = tight_numbers(chance);
@@ -231,8 +279,7 @@ pub(crate) fn tight_square(chance: &mut Chance) -> Frame {
     };
     let way = way_of_square(chance, square).unwrap_or(fallback);
     let receiver = way.receiver(chance);
-    let mut source = way.place(road(chance), &receiver);
-    source.length = length;
+    let source = way.place(road(chance).uncut(length), &receiver);
     let place = placing(chance, 0, source);
     lone_pair(chance, receiver, place)
 }
@@ -245,8 +292,7 @@ pub(crate) fn tight_level(chance: &mut Chance) -> Frame {
 
 /// A pair of which one period's share level is just zero, or just below it.
 pub(crate) fn faint_level(chance: &mut Chance) -> Frame {
-    let mut road = road(chance);
-    road.length = chance.magnitude(180);
+    let road = road(chance).uncut(chance.magnitude(180));
     tuned_pair(chance, road, WIDE, [1, 0])
 }
 

@@ -3,9 +3,10 @@
 
 use crate::daily::Daily;
 use crate::fields::{
-    CLASS, DTV, FARTHEST, HEIGHT, RECEIVERS, RECEIVER_SLOT, SOURCE_SLOT, VEHICLES,
+    Field, CLASS, DTV, FARTHEST, FIRST_Y, HEIGHT, LENGTH, RECEIVERS, RECEIVER_SLOT, SECOND_X,
+    SECOND_Y, SOURCE_SLOT, VEHICLES,
 };
-use crate::fixed::{example, example_receiver, example_source};
+use crate::fixed::{example, example_receiver, example_source, with_ends};
 use crate::probe::Frame;
 use crate::record::{kind_byte, Record, LONGEST};
 use crate::road::{Receiver, Source, FAST_ABOVE, FAST_SURFACE};
@@ -37,6 +38,11 @@ fn place_source() -> Record {
     Record::PlaceSource(0, example_source())
 }
 
+/// The source of the example between two ends.
+fn place_between() -> Record {
+    Record::PlaceSource(0, with_ends(example_source()))
+}
+
 fn place_daily(class: i64, dtv: i64) -> Record {
     Record::PlaceDaily(0, Daily::new(example_source(), class, dtv))
 }
@@ -50,12 +56,13 @@ fn frame(image: &[u8], record: &[u8]) -> Frame {
 
 /// Stored states that are all too short, so that every one is damaged and comes back as it is,
 /// with records of which the reader would take some and refuse others.
-fn stored_states() -> [Frame; 8] {
+fn stored_states() -> [Frame; 10] {
     let ask = Record::Ask(5).bytes();
     let place = place_receiver().bytes();
     let two_records = [place_source().bytes(), ask.clone()].concat();
     let mut leftover = Record::WithdrawSource(SOURCE_SLOT.most()).bytes();
     leftover[1] |= 0b111;
+    let between = place_between().bytes();
     [
         // nothing at all
         frame(&[], &[]),
@@ -76,6 +83,9 @@ fn stored_states() -> [Frame; 8] {
             &[7],
             &Record::WithdrawReceiver(RECEIVER_SLOT.most()).bytes(),
         ),
+        // a source between two ends to place, and one that lacks its last byte
+        frame(&[1, 1], &between),
+        frame(&[1, 0], &between[..between.len() - 1]),
     ]
 }
 
@@ -83,8 +93,20 @@ fn writing(record: Record, room: usize) -> Writing {
     Writing { record, room }
 }
 
+/// The same with more in a coordinate than a record has bits for.
+fn beyond(field: &Field) -> Record {
+    let place = place_between();
+    place.with(field, FARTHEST + 1 + place.value(field))
+}
+
+/// The same with its ends so far apart.
+fn apart(length: i64) -> Record {
+    let place = place_between();
+    place.with(&SECOND_Y, place.value(&FIRST_Y) + length)
+}
+
 /// Calls to write, with more room than the record takes, just enough, and too little.
-fn writings() -> [Writing; 15] {
+fn writings() -> [Writing; 22] {
     let receiver = |receiver| Record::PlaceReceiver(5, receiver);
     let far = Receiver {
         x: FARTHEST + 1 + example_receiver().x,
@@ -102,6 +124,7 @@ fn writings() -> [Writing; 15] {
     let mut busy = example_source();
     busy.traffic[0].vehicles = VEHICLES.most() + 1;
     let place = place_receiver().bytes().len();
+    let source = place_source().bytes().len();
     let ask = Record::Ask(5).bytes().len();
     [
         writing(Record::Ask(5), ask + 1),
@@ -112,8 +135,8 @@ fn writings() -> [Writing; 15] {
         // an x that would be the example's if only a record's bits counted
         writing(receiver(far), place),
         writing(receiver(high), place),
-        writing(place_source(), LONGEST + 1),
-        writing(place_source(), LONGEST - 1),
+        writing(place_source(), source + 1),
+        writing(place_source(), source - 1),
         // a surface for faster roads, and more vehicles than there may be
         writing(Record::PlaceSource(0, slow), LONGEST),
         writing(Record::PlaceSource(0, busy), LONGEST),
@@ -123,6 +146,16 @@ fn writings() -> [Writing; 15] {
         writing(place_daily(CLASS.most(), DTV.most()), LONGEST),
         writing(place_daily(CLASS.most() + 1, DTV.most() + 1), LONGEST),
         writing(place_daily(CLASS.most(), DTV.most() + 1), LONGEST),
+        // a source between two ends, and an end that would be the example's if only a record's bits
+        // counted
+        writing(place_between(), LONGEST + 1),
+        writing(place_between(), LONGEST - 1),
+        writing(beyond(&SECOND_X), LONGEST),
+        writing(beyond(&SECOND_Y), LONGEST),
+        // both ends at one place, as far apart as they may be, and farther
+        writing(apart(0), LONGEST),
+        writing(apart(LENGTH.most()), LONGEST),
+        writing(apart(LENGTH.most() + 1), LONGEST),
     ]
 }
 

@@ -2,11 +2,12 @@
 // A seed stands for one job; its remainder by the number of kinds says which kind it is.
 
 use crate::chance::Chance;
+use crate::cuts::{corner_roads, receiver_beside, stretched_roads, MAKERS};
 use crate::daily::Daily;
 use crate::fields::{
     widest, CLASS, DTV, FARTHEST, HEIGHT, LENGTH, RECEIVERS, RECEIVER_SLOT, SOURCES, SOURCE_SLOT,
 };
-use crate::fixed::{example_receiver, one_of_each};
+use crate::fixed::{example_receiver, one_of_each, with_ends};
 use crate::limits::{
     loud_road, trial_values, tuned, tuned_by_day, way_of_square, Way, APART, FAR_STEPS,
     HALF_NEAREST, HALVES, NEAR_STEPS, PAPER_LENGTHS, PAPER_WAYS,
@@ -16,14 +17,14 @@ use crate::record::{
     kind_byte, kind_in, length_of, listed_kinds, spare_bits, unlisted_kinds, Record,
 };
 use crate::road::{Receiver, Source, FARTHEST_SQUARE, LOUDEST, NEAREST_SQUARE};
-use crate::town::{by_day, placing, road, traffic, Draft, Town, WIDE};
+use crate::town::{any_road, by_day, placing, road, traffic, Draft, Town, WIDE};
 
 /// What makes one kind of job.
 type Maker = fn(&mut Chance) -> Vec<u8>;
 
-const KINDS: [Maker; 18] = [
-    town, churn, crowd, late, near, far, long, loud, faint, fields, terms, sweep, daily, twins,
-    flipped, leftover, unknown, noise,
+const KINDS: [Maker; 21] = [
+    town, churn, crowd, late, near, far, long, cut, cut_late, ends, loud, faint, fields, terms,
+    sweep, daily, twins, flipped, leftover, unknown, noise,
 ];
 
 /// The job a seed stands for.
@@ -147,10 +148,7 @@ fn try_placings(draft: &mut Draft, chance: &mut Chance, receiver: Receiver, plac
 fn try_square(draft: &mut Draft, chance: &mut Chance, square: i64, length: i64) {
     if let Some(way) = way_of_square(chance, square) {
         let receiver = way.receiver(chance);
-        let source = Source {
-            length,
-            ..road(chance)
-        };
+        let source = road(chance).uncut(length);
         try_pair(draft, chance, receiver, way.place(source, &receiver));
     }
 }
@@ -176,10 +174,7 @@ fn near(chance: &mut Chance) -> Vec<u8> {
             height: example_receiver().height,
         };
         let receiver = way.receiver(chance);
-        let source = Source {
-            length: 100,
-            ..road(chance)
-        };
+        let source = road(chance).uncut(100);
         try_pair(&mut draft, chance, receiver, way.place(source, &receiver));
     }
     draft.bytes
@@ -196,14 +191,11 @@ fn far(chance: &mut Chance) -> Vec<u8> {
     for (x, y) in [(0, 0), (FARTHEST, 0), (0, FARTHEST), (FARTHEST, FARTHEST)] {
         let height = chance.within(&HEIGHT);
         let here = Receiver { x, y, height };
-        let there = Source {
-            x: FARTHEST - x,
-            y: chance.pick(&[0, FARTHEST]),
-            ..road(chance)
-        };
+        let across = chance.pick(&[0, FARTHEST]);
+        let there = road(chance).moved(FARTHEST - x, across);
         try_pair(&mut draft, chance, here, there);
-        let (x, y) = ((x - 9000).max(0), y);
-        try_pair(&mut draft, chance, here, Source { x, y, ..there });
+        let near = there.moved((x - 9000).max(0), y);
+        try_pair(&mut draft, chance, here, near);
     }
     draft.bytes
 }
@@ -223,11 +215,68 @@ fn long(chance: &mut Chance) -> Vec<u8> {
             height: example_receiver().height,
         };
         let receiver = way.receiver(chance);
-        let source = Source {
-            length,
-            ..road(chance)
-        };
+        let source = road(chance).uncut(length);
         try_pair(&mut draft, chance, receiver, way.place(source, &receiver));
+    }
+    draft.bytes
+}
+
+/// Roads between two ends before a receiver each, of every kind that there is.
+fn cut(chance: &mut Chance) -> Vec<u8> {
+    let mut draft = Draft::default();
+    for maker in MAKERS {
+        for _ in 0..5 {
+            let (receiver, source) = maker(chance);
+            try_placings(&mut draft, chance, receiver, Record::PlaceSource(0, source));
+        }
+    }
+    draft.bytes
+}
+
+/// Long roads between two ends, and receivers that come late and stand beside them, some too near.
+fn cut_late(chance: &mut Chance) -> Vec<u8> {
+    let width = chance.pick(&[10_000, 40_000, WIDE]);
+    let town = Town::of_width(chance, width);
+    let mut draft = Draft::default();
+    for slot in 0..chance.between(1, 40) {
+        draft.put(Record::PlaceSource(slot, town.between(chance)));
+    }
+    for _ in 0..chance.between(10, 80) {
+        let away = chance.magnitude(2000);
+        let receiver = match draft.book.sources[chance.index(40)] {
+            Some(source) => receiver_beside(chance, &source.course, away),
+            None => town.receiver(chance),
+        };
+        let slot = chance.between(0, 5);
+        draft.put(Record::PlaceReceiver(slot, receiver));
+        draft.put(Record::Ask(slot));
+        if chance.one_in(3) {
+            draft.put(Record::WithdrawReceiver(slot));
+        }
+        if chance.one_in(3) {
+            let slot = chance.between(0, 39);
+            draft.put(Record::WithdrawSource(slot));
+            draft.put(Record::PlaceSource(slot, town.between(chance)));
+        }
+    }
+    draft.ask_all(chance);
+    draft.bytes
+}
+
+/// Roads of every length at which they are treated otherwise, with ends anywhere and at the corners
+/// of the map, beside a receiver that stands at an end or somewhat off it.
+fn ends(chance: &mut Chance) -> Vec<u8> {
+    let mut draft = Draft::default();
+    for _ in 0..2 {
+        let (x, y) = (chance.edge(0, FARTHEST), chance.edge(0, FARTHEST));
+        let road = road(chance).moved(x, y);
+        let mut roads = stretched_roads(chance, road);
+        roads.extend(corner_roads(chance, road));
+        for source in roads {
+            let away = chance.magnitude(1000);
+            let receiver = receiver_beside(chance, &source.course, away);
+            try_placings(&mut draft, chance, receiver, Record::PlaceSource(0, source));
+        }
     }
     draft.bytes
 }
@@ -287,8 +336,8 @@ fn faint(chance: &mut Chance) -> Vec<u8> {
     let mut draft = Draft::default();
     for _ in 0..80 {
         let (receiver, way) = some_way(chance, WIDE);
-        let mut source = way.place(road(chance), &receiver);
-        source.length = chance.magnitude(300);
+        let source = road(chance).uncut(chance.magnitude(300));
+        let mut source = way.place(source, &receiver);
         if chance.one_in(3) {
             let level = chance.between(0, 1);
             try_tuned_by_day(&mut draft, chance, receiver, source, level);
@@ -311,7 +360,11 @@ fn fields(chance: &mut Chance) -> Vec<u8> {
     draft.put(Record::PlaceReceiver(0, receiver));
     let source = way.place(road(chance), &receiver);
     let daily = by_day(chance, source);
-    for place in [Record::PlaceSource(0, source), Record::PlaceDaily(0, daily)] {
+    for place in [
+        Record::PlaceSource(0, source),
+        Record::PlaceDaily(0, daily),
+        Record::PlaceSource(0, with_ends(source)),
+    ] {
         for field in &place.fields()[1..] {
             for value in trial_values(chance, field, field.bits) {
                 try_source(&mut draft, place.with(field, value));
@@ -360,7 +413,7 @@ fn terms(chance: &mut Chance) -> Vec<u8> {
         let (receiver, way) = some_way(chance, farthest);
         draft.put(Record::PlaceReceiver(0, receiver));
         for _ in 0..20 {
-            let source = way.place(road(chance), &receiver);
+            let source = way.place(any_road(chance), &receiver);
             try_source(&mut draft, placing(chance, 0, source));
         }
         draft.put(Record::WithdrawReceiver(0));
@@ -375,9 +428,9 @@ fn sweep(chance: &mut Chance) -> Vec<u8> {
     let (receiver, way) = some_way(chance, 9_000);
     draft.put(Record::PlaceReceiver(0, receiver));
     for _ in 0..4 {
-        let source = way.place(road(chance), &receiver);
+        let source = way.place(any_road(chance), &receiver);
         let base = placing(chance, 0, source);
-        let field = chance.pick(&base.fields()[LENGTH.number.into()..]);
+        let field = chance.pick(&base.fields()[1 + source.course.fields().len()..]);
         let most = widest(field.bits);
         for turn in 0..=255.min(most) {
             let value = if most > 255 {
@@ -411,7 +464,7 @@ fn daily(chance: &mut Chance) -> Vec<u8> {
 fn twins(chance: &mut Chance) -> Vec<u8> {
     let mut draft = Draft::default();
     let (receiver, way) = some_way(chance, 30_000);
-    let source = way.place(road(chance), &receiver);
+    let source = way.place(any_road(chance), &receiver);
     let place = placing(chance, 0, source);
     let source = place.source().expect("a source is placed");
     let ways = [place, Record::PlaceSource(0, source)];

@@ -4,6 +4,8 @@
 pub mod book;
 pub mod chance;
 pub mod compare;
+pub mod course;
+pub mod cuts;
 pub mod daily;
 pub mod fields;
 pub mod fixed;

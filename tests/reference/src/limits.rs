@@ -2,16 +2,17 @@
 // What lies on a limit is searched for, so that one step further lies beyond it.
 
 use crate::chance::Chance;
+use crate::course::{Course, Piece};
 use crate::daily::Daily;
 use crate::fields::{
     widest, Field, CAR_SPEED, CLASS, DTV, FARTHEST, GRADIENT, HEIGHT, LENGTH, MINUS, REFLECTION,
     STEEPEST, TRUCK_SPEED, VEHICLES,
 };
 use crate::road::{
-    emission, root, share_levels, Receiver, Source, Traffic, CAR_SPEEDS, FARTHEST_SQUARE,
-    FAST_ABOVE, FAST_SURFACE, FLAT, NEAREST_SQUARE, SOURCE_HEIGHT, SURFACE_COLUMNS, TRUCK_SPEEDS,
+    brought, emission, heard, root, PeriodLevels, Receiver, Source, Traffic, CAR_SPEEDS,
+    FARTHEST_SQUARE, FAST_ABOVE, FAST_SURFACE, FLAT, NEAREST_SQUARE, SOURCE_HEIGHT,
+    SURFACE_COLUMNS, TRUCK_SPEEDS,
 };
-use crate::town::road;
 use std::sync::LazyLock;
 
 /// How a source lies from a receiver of a certain height.
@@ -140,18 +141,14 @@ impl Way {
 
     /// The source moved to where this way leads from the receiver.
     pub fn place(&self, source: Source, receiver: &Receiver) -> Source {
-        Source {
-            x: receiver.x + self.dx,
-            y: receiver.y + self.dy,
-            ..source
-        }
+        source.moved(receiver.x + self.dx, receiver.y + self.dy)
     }
 }
 
 /// A road as loud as can be, but for its traffic and length.
 pub fn loud_road(chance: &mut Chance) -> Source {
     Source {
-        length: chance.between(150, HALF_NEAREST),
+        course: Course::uncut(0, 0, chance.between(150, HALF_NEAREST)),
         several_lanes: chance.between(0, 1),
         car_speed: chance.between(100, CAR_SPEED.most()),
         truck_speed: chance.between(60, TRUCK_SPEED.most()),
@@ -162,21 +159,37 @@ pub fn loud_road(chance: &mut Chance) -> Source {
         wall_spacing: 1500,
         traffic: [Traffic::default(); 3],
         reflection: REFLECTION.least(),
-        ..road(chance)
     }
+}
+
+/// The share levels of an uncut source.
+pub fn uncut_levels(source: &Source, receiver: &Receiver) -> PeriodLevels {
+    let piece = Piece::new(source.course.middle(), source.course.length(), receiver);
+    heard(&emission(source), &piece, receiver)
 }
 
 /// The share level of one period with the given traffic; none without any.
 fn level_with(source: &Source, receiver: &Receiver, period: usize, vehicles: i64) -> Option<i64> {
     let mut source = *source;
     source.traffic[period].vehicles = vehicles;
-    share_levels(&source, &emission(&source), receiver)[period]
+    uncut_levels(&source, receiver)[period]
 }
 
 /// The least traffic that lifts one period's share level to the given one, if any does.
 pub fn tuned(source: &Source, receiver: &Receiver, period: usize, level: i64) -> Option<i64> {
     let lifts = |vehicles| level_with(source, receiver, period, vehicles) >= Some(level);
     least(VEHICLES.most(), lifts)
+}
+
+/// The least traffic that lifts one period's share to the given one at least, if any does.
+pub fn tuned_share(source: &Source, receiver: &Receiver, period: usize, share: i64) -> Option<i64> {
+    let enough = |vehicles| {
+        let mut source = *source;
+        source.traffic[period].vehicles = vehicles;
+        let shares = brought(&source, &emission(&source), receiver);
+        shares.is_ok_and(|shares| shares[period] >= share)
+    };
+    least(VEHICLES.most(), enough)
 }
 
 /// A road whose daily figure is just enough, or just not, to lift one period's share level to the
@@ -191,7 +204,7 @@ pub fn tuned_by_day(
     let class = chance.within(&CLASS);
     let lifts = |dtv| {
         let source = Daily::new(road, class, dtv).source();
-        share_levels(&source, &emission(&source), receiver)[period] >= Some(level)
+        uncut_levels(&source, receiver)[period] >= Some(level)
     };
     let dtv = least(DTV.most(), lifts).map(|dtv| dtv - chance.between(0, 1));
     Daily::new(road, class, dtv.unwrap_or(DTV.most()))

@@ -1,13 +1,15 @@
 // Job records: reading them from bytes and writing them into bytes.
 // Bits run from the most significant; the bits after the last field are zero.
 
+use crate::course::Course;
 use crate::daily::{judge_daily, Daily};
 use crate::fields::{
-    Field, DAILY_FIELDS, RECEIVER_FIELDS, RECEIVER_SLOT, SOURCE_FIELDS, SOURCE_SLOT,
+    Field, BETWEEN_COURSE, BETWEEN_FIELDS, COMMON_FIELDS, DAILY_FIELDS, RECEIVER_FIELDS,
+    RECEIVER_SLOT, SOURCE_FIELDS, SOURCE_SLOT, UNCUT_COURSE,
 };
-use crate::road::{judge_receiver, judge_slot, judge_source, refusal, Receiver, Refusal, Source};
+use crate::road::{judge_receiver, judge_source, judge_value, refusal, Receiver, Refusal, Source};
 
-/// One record of a job, each with its slot.
+/// One record of a job, each with its slot. Where a source runs says of which kind its record is.
 #[derive(Clone, Copy, Debug, PartialEq, Eq)]
 pub enum Record {
     PlaceReceiver(i64, Receiver),
@@ -22,8 +24,8 @@ pub enum Record {
 const KIND_BITS: u32 = 4;
 const SAID_KINDS: u8 = 1 << KIND_BITS;
 
-/// The longest record, that of a source.
-pub const LONGEST: usize = whole_bytes(&SOURCE_FIELDS);
+/// The longest record, that of a source between two ends.
+pub const LONGEST: usize = whole_bytes(&BETWEEN_FIELDS);
 
 /// The kind that begins with a byte.
 pub fn kind_in(byte: u8) -> u8 {
@@ -43,6 +45,7 @@ pub fn fields_of(kind: u8) -> Option<&'static [Field]> {
         3 => Some(&SOURCE_FIELDS),
         4 => Some(&SOURCE_FIELDS[..1]),
         6 => Some(&DAILY_FIELDS),
+        7 => Some(&BETWEEN_FIELDS),
         _ => None,
     }
 }
@@ -88,7 +91,10 @@ impl Record {
         match self {
             Record::PlaceReceiver(..) => 1,
             Record::WithdrawReceiver(_) => 2,
-            Record::PlaceSource(..) => 3,
+            Record::PlaceSource(_, source) => match source.course {
+                Course::Uncut { .. } => 3,
+                Course::Between { .. } => 7,
+            },
             Record::WithdrawSource(_) => 4,
             Record::Ask(_) => 5,
             Record::PlaceDaily(..) => 6,
@@ -104,16 +110,18 @@ impl Record {
     pub fn judge(&self) -> Result<(), Refusal> {
         match self {
             Record::PlaceReceiver(slot, receiver) => {
-                judge_slot(*slot, &RECEIVER_SLOT).and_then(|()| judge_receiver(receiver))
+                judge_value(*slot, &RECEIVER_SLOT).and_then(|()| judge_receiver(receiver))
             }
             Record::PlaceSource(slot, source) => {
-                judge_slot(*slot, &SOURCE_SLOT).and_then(|()| judge_source(source))
+                judge_value(*slot, &SOURCE_SLOT).and_then(|()| judge_source(source))
             }
             Record::PlaceDaily(slot, daily) => {
-                judge_slot(*slot, &SOURCE_SLOT).and_then(|()| judge_daily(daily))
+                judge_value(*slot, &SOURCE_SLOT).and_then(|()| judge_daily(daily))
             }
-            Record::WithdrawReceiver(slot) | Record::Ask(slot) => judge_slot(*slot, &RECEIVER_SLOT),
-            Record::WithdrawSource(slot) => judge_slot(*slot, &SOURCE_SLOT),
+            Record::WithdrawReceiver(slot) | Record::Ask(slot) => {
+                judge_value(*slot, &RECEIVER_SLOT)
+            }
+            Record::WithdrawSource(slot) => judge_value(*slot, &SOURCE_SLOT),
         }
     }
 
@@ -150,10 +158,15 @@ impl Record {
         values
     }
 
+    /// The value of one of its fields.
+    pub fn value(&self, field: &Field) -> i64 {
+        self.values()[field.index_in(self.fields())]
+    }
+
     /// The same record with another value of one of its fields.
     pub fn with(&self, field: &Field, value: i64) -> Record {
         let mut values = self.values();
-        values[usize::from(field.number) - 1] = value;
+        values[field.index_in(self.fields())] = value;
         let mut values = values.into_iter();
         Record::of(self.kind(), |_| {
             values.next().expect("every field has a value")
@@ -166,17 +179,27 @@ impl Record {
         match kind {
             1 => {
                 let slot = value(&RECEIVER_SLOT);
-                Record::PlaceReceiver(slot, Receiver::of_fields(rest(&RECEIVER_FIELDS, value)))
+                let fields = each(&RECEIVER_FIELDS[1..], &mut value);
+                Record::PlaceReceiver(slot, Receiver::of_fields(fields))
             }
             2 => Record::WithdrawReceiver(value(&RECEIVER_SLOT)),
             3 => {
                 let slot = value(&SOURCE_SLOT);
-                Record::PlaceSource(slot, Source::of_fields(rest(&SOURCE_FIELDS, value)))
+                let [x, y, length] = each(&UNCUT_COURSE, &mut value);
+                placed(slot, Course::uncut(x, y, length), value)
             }
             4 => Record::WithdrawSource(value(&SOURCE_SLOT)),
             6 => {
                 let slot = value(&SOURCE_SLOT);
-                Record::PlaceDaily(slot, Daily::of_fields(rest(&DAILY_FIELDS, value)))
+                let [x, y, length] = each(&UNCUT_COURSE, &mut value);
+                let course = Course::uncut(x, y, length);
+                let rest = &DAILY_FIELDS[1 + UNCUT_COURSE.len()..];
+                Record::PlaceDaily(slot, Daily::of_fields(course, each(rest, &mut value)))
+            }
+            7 => {
+                let slot = value(&SOURCE_SLOT);
+                let [x1, y1, x2, y2] = each(&BETWEEN_COURSE, &mut value);
+                placed(slot, Course::between(x1, y1, x2, y2), value)
             }
             _ => Record::Ask(value(&RECEIVER_SLOT)),
         }
@@ -193,9 +216,16 @@ impl Record {
     }
 }
 
-/// The values of the fields after the slot.
-fn rest<const N: usize>(fields: &[Field], mut value: impl FnMut(&Field) -> i64) -> [i64; N] {
-    std::array::from_fn(|at| value(&fields[at + 1]))
+/// The record that places a source, from where it runs and the values of its fields 5 to 19.
+fn placed(slot: i64, course: Course, mut value: impl FnMut(&Field) -> i64) -> Record {
+    let fields = each(&COMMON_FIELDS, &mut value);
+    Record::PlaceSource(slot, Source::of_fields(course, fields))
+}
+
+/// The values of as many fields as a table has.
+fn each<const N: usize>(fields: &[Field], value: &mut impl FnMut(&Field) -> i64) -> [i64; N] {
+    assert_eq!(fields.len(), N, "every field has a value");
+    std::array::from_fn(|at| value(&fields[at]))
 }
 
 /// Puts fields of any width end to end.

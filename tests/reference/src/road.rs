@@ -1,7 +1,8 @@
 // Sources and receivers: their fields, which of them are allowed, and every term of the method.
 // Lengths are whole centimetres, levels whole hundredths of a decibel, all in signed 64 bits.
 
-use crate::fields::{Field, MINUS, RECEIVER_FIELDS, SOURCE_FIELDS};
+use crate::course::{cut, Course, Piece, Point};
+use crate::fields::{Field, COMMON_FIELDS, LENGTH, MINUS, RECEIVER_FIELDS};
 use crate::level::{energy, lv, FAINTEST, STEPS};
 
 /// A number for the caller, with the field or slot it speaks of (0 where there is none).
@@ -23,12 +24,10 @@ pub struct Traffic {
     pub trucks: i64,
 }
 
-/// One straight piece of road, its slot apart. The gradient is held as it is coded.
+/// One straight road, its slot apart. The gradient is held as it is coded.
 #[derive(Clone, Copy, Debug, Default, PartialEq, Eq)]
 pub struct Source {
-    pub x: i64,
-    pub y: i64,
-    pub length: i64,
+    pub course: Course,
     pub several_lanes: i64,
     pub car_speed: i64,
     pub truck_speed: i64,
@@ -93,13 +92,17 @@ const SURFACES: [[i64; 3]; 9] = [
 const REFLECTIONS: [i64; 5] = [0, -100, -200, -400, -800];
 
 impl Source {
-    /// The fields 2 to 19, in their order.
-    pub fn fields(&self) -> [i64; 18] {
+    /// The fields after the slot, in their order.
+    pub fn fields(&self) -> Vec<i64> {
+        let mut fields = self.course.values();
+        fields.extend(self.common_fields());
+        fields
+    }
+
+    /// The fields 5 to 19, in their order.
+    pub fn common_fields(&self) -> [i64; 15] {
         let [day, evening, night] = self.traffic;
         [
-            self.x,
-            self.y,
-            self.length,
             self.several_lanes,
             self.car_speed,
             self.truck_speed,
@@ -118,27 +121,38 @@ impl Source {
         ]
     }
 
-    /// A source from its fields 2 to 19.
-    pub fn of_fields(f: [i64; 18]) -> Source {
+    /// A source from where it runs and its fields 5 to 19.
+    pub fn of_fields(course: Course, f: [i64; 15]) -> Source {
         let period = |at: usize| Traffic {
             vehicles: f[at],
             trucks: f[at + 1],
         };
         Source {
-            x: f[0],
-            y: f[1],
-            length: f[2],
-            several_lanes: f[3],
-            car_speed: f[4],
-            truck_speed: f[5],
-            surface: f[6],
-            gradient: f[7],
-            reflection: f[8],
-            walls: f[9],
-            wall_height: f[10],
-            wall_spacing: f[11],
-            traffic: [period(12), period(14), period(16)],
+            course,
+            several_lanes: f[0],
+            car_speed: f[1],
+            truck_speed: f[2],
+            surface: f[3],
+            gradient: f[4],
+            reflection: f[5],
+            walls: f[6],
+            wall_height: f[7],
+            wall_spacing: f[8],
+            traffic: [period(9), period(11), period(13)],
         }
+    }
+
+    /// The same source with its middle elsewhere.
+    pub fn moved(self, x: i64, y: i64) -> Source {
+        let course = self.course.moved(x, y);
+        Source { course, ..self }
+    }
+
+    /// The same source as an uncut piece of the given length.
+    pub fn uncut(self, length: i64) -> Source {
+        let middle = self.course.middle();
+        let course = Course::Uncut { middle, length };
+        Source { course, ..self }
     }
 
     fn bounded_car_speed(&self) -> i64 {
@@ -175,31 +189,34 @@ fn wrong_field(place: u16) -> Refusal {
     Refusal { number: 5, place }
 }
 
-/// Judges a slot number: refusal 5.
-pub fn judge_slot(slot: i64, field: &Field) -> Result<(), Refusal> {
-    if field.allows(slot) {
-        Ok(())
-    } else {
-        Err(wrong_field(field.number))
-    }
+/// Judges the value of one field: refusal 5.
+pub fn judge_value(value: i64, field: &Field) -> Result<(), Refusal> {
+    judge_fields(&[*field], &[value], Field::allows)
 }
 
-/// Judges the values of the fields after the slot: refusal 5 for the first that is not allowed.
+/// Judges the values of fields: refusal 5 for the first that is not allowed.
 pub fn judge_fields(
     fields: &[Field],
     values: &[i64],
     allows: impl Fn(&Field, i64) -> bool,
 ) -> Result<(), Refusal> {
-    let mut judged = fields[1..].iter().zip(values);
+    let mut judged = fields.iter().zip(values);
     match judged.find(|&(field, &value)| !allows(field, value)) {
         Some((field, _)) => Err(wrong_field(field.number)),
         None => Ok(()),
     }
 }
 
-/// Judges the fields 2 to 19 of a source: refusals 5, 6 and 7.
+/// Judges where a source runs: refusal 5 for its fields, and then for its length.
+fn judge_course(course: &Course) -> Result<(), Refusal> {
+    judge_fields(course.fields(), &course.values(), Field::allows)?;
+    judge_value(course.length(), &LENGTH)
+}
+
+/// Judges the fields of a source after its slot: refusals 5, 6 and 7.
 pub fn judge_source(source: &Source) -> Result<(), Refusal> {
-    judge_fields(&SOURCE_FIELDS, &source.fields(), |field, value| {
+    judge_course(&source.course)?;
+    judge_fields(&COMMON_FIELDS, &source.common_fields(), |field, value| {
         source.allows(field, value)
     })?;
     if source.surface >= FAST_SURFACE && source.car_speed <= FAST_ABOVE {
@@ -213,7 +230,7 @@ pub fn judge_source(source: &Source) -> Result<(), Refusal> {
 
 /// Judges the fields 2 to 4 of a receiver: refusal 5.
 pub fn judge_receiver(receiver: &Receiver) -> Result<(), Refusal> {
-    judge_fields(&RECEIVER_FIELDS, &receiver.fields(), Field::allows)
+    judge_fields(&RECEIVER_FIELDS[1..], &receiver.fields(), Field::allows)
 }
 
 /// L25 of one period; none where nothing drives.
@@ -321,14 +338,19 @@ pub fn root(square: i64) -> i64 {
 /// Levels by day, evening and night; none where nothing drives.
 pub type PeriodLevels = [Option<i64>; 3];
 
-/// What a source sends out, whoever hears it: every term that hangs on the source alone.
+/// What a source sends out, whoever hears it: every term that hangs on the source alone. The
+/// length is among them where the source is not cut; otherwise each piece has its own.
 pub fn emission(source: &Source) -> PeriodLevels {
     let car = car_level(source);
     let excess = truck_level(source) - car;
+    let length = match source.course {
+        Course::Uncut { length, .. } => length_term(length),
+        Course::Between { .. } => 0,
+    };
     let fixed = surface_term(source)
         + gradient_term(source.gradient)
         + REFLECTIONS[source.reflection as usize]
-        + length_term(source.length)
+        + length
         + wall_term(source);
     source.traffic.map(|traffic| {
         let l25 = traffic_term(traffic, source.several_lanes == 1)?;
@@ -336,35 +358,23 @@ pub fn emission(source: &Source) -> PeriodLevels {
     })
 }
 
-/// The squared distances between source and receiver: on the map and in space.
-pub fn squares(source: &Source, receiver: &Receiver) -> (i64, i64) {
-    let (dx, dy) = (source.x - receiver.x, source.y - receiver.y);
-    let on_map = dx * dx + dy * dy;
-    let rise = receiver.height - SOURCE_HEIGHT;
-    (on_map, on_map + rise * rise)
-}
-
-/// Judges how source and receiver lie to each other: refusals 10, 11 and 12.
-fn judge_way(length: i64, square: i64) -> Result<(), u8> {
-    if square < NEAREST_SQUARE {
+/// Judges how far a piece is from its receiver: refusals 10 and 11.
+fn judge_distance(piece: &Piece) -> Result<(), u8> {
+    if piece.in_space < NEAREST_SQUARE {
         return Err(10);
     }
-    if square > FARTHEST_SQUARE {
+    if piece.in_space > FARTHEST_SQUARE {
         return Err(11);
-    }
-    if 4 * length * length > square {
-        return Err(12);
     }
     Ok(())
 }
 
-/// The share levels of an accepted way, for the three periods.
-pub fn share_levels(source: &Source, sent: &PeriodLevels, receiver: &Receiver) -> PeriodLevels {
-    let (on_map, in_space) = squares(source, receiver);
+/// What is left at a receiver of the levels that a piece sends out, for the three periods.
+pub fn heard(sent: &PeriodLevels, piece: &Piece, receiver: &Receiver) -> PeriodLevels {
     let heights = receiver.height + SOURCE_HEIGHT;
-    let far = root(in_space);
-    let lost = distance_term(in_space, far) + ground_term(heights, far);
-    let map_way = root(on_map);
+    let far = root(piece.in_space);
+    let lost = distance_term(piece.in_space, far) + ground_term(heights, far);
+    let map_way = root(piece.on_map);
     std::array::from_fn(|period| {
         let weather = weather_term(WEATHER[period], heights, map_way);
         sent[period].map(|level| level - lost + weather)
@@ -381,12 +391,51 @@ fn share(level: Option<i64>) -> i64 {
     }
 }
 
+/// What an uncut source brings to a receiver, however loud; or refusal 10, 11 or 12.
+fn whole(sent: &PeriodLevels, piece: &Piece, receiver: &Receiver) -> Result<Shares, u8> {
+    judge_distance(piece)?;
+    if piece.is_long() {
+        return Err(12);
+    }
+    Ok(heard(sent, piece, receiver).map(share))
+}
+
+/// What the pieces between two ends bring to a receiver, however loud; or refusal 10 or 11 of the
+/// first piece that has one.
+fn summed(
+    sent: &PeriodLevels,
+    first: Point,
+    second: Point,
+    receiver: &Receiver,
+) -> Result<Shares, u8> {
+    let mut sums = [0; 3];
+    cut(first, second, receiver, &mut |piece| {
+        judge_distance(piece)?;
+        let length = length_term(piece.length);
+        let levels = heard(sent, piece, receiver);
+        for (sum, level) in sums.iter_mut().zip(levels) {
+            *sum += share(level.map(|level| level + length));
+        }
+        Ok(())
+    })?;
+    Ok(sums)
+}
+
+/// What a source brings to a receiver, however loud, or refusal 10, 11 or 12 of the pair.
+pub fn brought(source: &Source, sent: &PeriodLevels, receiver: &Receiver) -> Result<Shares, u8> {
+    match source.course {
+        Course::Uncut { middle, length } => {
+            whole(sent, &Piece::new(middle, length, receiver), receiver)
+        }
+        Course::Between { first, second } => summed(sent, first, second, receiver),
+    }
+}
+
 /// What a source brings to a receiver, or the refusal of the pair, 10 to 13.
 pub fn shares(source: &Source, sent: &PeriodLevels, receiver: &Receiver) -> Result<Shares, u8> {
-    judge_way(source.length, squares(source, receiver).1)?;
-    let levels = share_levels(source, sent, receiver);
-    if levels.iter().flatten().any(|&level| level > LOUDEST) {
+    let shares = brought(source, sent, receiver)?;
+    if shares.iter().any(|&share| share > GREATEST_SHARE) {
         return Err(13);
     }
-    Ok(levels.map(share))
+    Ok(shares)
 }

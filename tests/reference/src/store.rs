@@ -2,15 +2,31 @@
 // Taking out gives nothing exactly when the stored state is damaged.
 
 use crate::book::{Account, Book, TOP};
-use crate::fields::{Field, HEIGHT, RECEIVERS, RECEIVER_FIELDS, SOURCES, SOURCE_FIELDS, X, Y};
+use crate::course::Course;
+use crate::fields::{
+    field, joined, Field, BETWEEN_COURSE, COMMON_FIELDS, HEIGHT, RECEIVERS, RECEIVER_FIELDS,
+    SOURCES, UNCUT_COURSE, X, Y,
+};
 use crate::road::{judge_receiver, judge_source, Receiver, Source};
 
 /// Bytes of the use mark that begins every slot, and of each sum.
 const MARK: usize = 1;
 const SUM: usize = 8;
 
-/// Bytes of each field of a source slot after its use mark.
-pub const SOURCE_BYTES: [usize; SOURCE_FIELDS.len() - 1] = bytes_of(&SOURCE_FIELDS);
+/// How a source slot says where its source runs, and what there is in place of a fourth number
+/// where three say it. Neither has a number of its own: a slot in which they are wrong is damaged.
+pub const COURSE: Field = field(0, "course", 8, &[(UNCUT, BETWEEN)]);
+pub const NOTHING: Field = field(0, "nothing", 24, &[(0, 0)]);
+const UNCUT: i64 = 0;
+const BETWEEN: i64 = 1;
+
+/// The fields of a source slot after its use mark, of an uncut source and of one between two ends.
+pub static UNCUT_SLOT: [Field; 20] =
+    joined(&[&[COURSE], &UNCUT_COURSE, &[NOTHING], &COMMON_FIELDS]);
+pub static BETWEEN_SLOT: [Field; 20] = joined(&[&[COURSE], &BETWEEN_COURSE, &COMMON_FIELDS]);
+
+/// Bytes of each field of a source slot after its use mark, whichever it is.
+pub const SOURCE_BYTES: [usize; UNCUT_SLOT.len()] = bytes_of(&UNCUT_SLOT);
 
 /// Bytes of each field of a receiver slot after its use mark: the place, then the sums.
 pub const RECEIVER_BYTES: [usize; 6] = [X.bytes(), Y.bytes(), HEIGHT.bytes(), SUM, SUM, SUM];
@@ -34,12 +50,12 @@ pub const fn receiver_at(slot: usize) -> usize {
     RECEIVERS_AT + slot * RECEIVER_SIZE
 }
 
-/// Bytes of the fields after the slot.
-const fn bytes_of<const N: usize>(fields: &[Field]) -> [usize; N] {
+/// Bytes of the fields of a table.
+const fn bytes_of<const N: usize>(fields: &[Field; N]) -> [usize; N] {
     let mut bytes = [0; N];
     let mut at = 0;
     while at < N {
-        bytes[at] = fields[at + 1].bytes();
+        bytes[at] = fields[at].bytes();
         at += 1;
     }
     bytes
@@ -87,10 +103,36 @@ fn decode_slot<T>(slot: &[u8], used: impl Fn(&[u8]) -> Option<T>) -> Option<Opti
     }
 }
 
+/// Where a source runs, by the byte and the four numbers that say it.
+fn course_of(told: i64, numbers: [i64; 4]) -> Option<Course> {
+    match (told, numbers) {
+        (UNCUT, [x, y, length, 0]) => Some(Course::uncut(x, y, length)),
+        (BETWEEN, [x1, y1, x2, y2]) => Some(Course::between(x1, y1, x2, y2)),
+        _ => None,
+    }
+}
+
+/// The source of a slot as it is, without judging its fields; none where nothing says how it runs.
+pub fn take_source(slot: &[u8]) -> Option<Source> {
+    let fields = unpack(slot, &SOURCE_BYTES).map(|field| field as i64);
+    let [told, a, b, c, d, common @ ..] = fields;
+    course_of(told, [a, b, c, d]).map(|course| Source::of_fields(course, common))
+}
+
 fn decode_source(slot: &[u8]) -> Option<Source> {
-    let fields = unpack(slot, &SOURCE_BYTES);
-    let source = Source::of_fields(fields.map(|field| field as i64));
-    judge_source(&source).ok().map(|()| source)
+    take_source(slot).filter(|source| judge_source(source).is_ok())
+}
+
+/// The fields of a source slot.
+fn stored_fields(source: &Source) -> Vec<i64> {
+    let mut fields = match source.course {
+        Course::Uncut { .. } => vec![UNCUT],
+        Course::Between { .. } => vec![BETWEEN],
+    };
+    fields.extend(source.course.values());
+    fields.resize(SOURCE_BYTES.len() - COMMON_FIELDS.len(), 0);
+    fields.extend(source.common_fields());
+    fields
 }
 
 fn decode_account(slot: &[u8]) -> Option<Account> {
@@ -132,7 +174,7 @@ pub fn encode(book: &Book) -> Vec<u8> {
     let source_slots = sources.chunks_exact_mut(SOURCE_SIZE);
     for (slot, source) in source_slots.zip(&book.sources) {
         if let Some(source) = source {
-            pack(slot, &source.fields(), &SOURCE_BYTES);
+            pack(slot, &stored_fields(source), &SOURCE_BYTES);
         }
     }
     let receiver_slots = receivers.chunks_exact_mut(RECEIVER_SIZE);
@@ -144,6 +186,17 @@ pub fn encode(book: &Book) -> Vec<u8> {
         }
     }
     image
+}
+
+/// Where a field is among those of a source slot.
+pub fn source_index(field: &Field) -> usize {
+    let uncut = UNCUT_SLOT.contains(field);
+    field.index_in(if uncut { &UNCUT_SLOT } else { &BETWEEN_SLOT })
+}
+
+/// Where a field is among those of a receiver slot.
+pub fn receiver_index(field: &Field) -> usize {
+    field.index_in(&RECEIVER_FIELDS[1..])
 }
 
 /// Where a field of a slot begins, given where the slot is and the widths of its fields.

@@ -3,30 +3,32 @@
 
 use crate::book::{encode, Account, Book, TOP};
 use crate::chance::Chance;
+use crate::course::Course;
+use crate::cuts::stretched_roads;
 use crate::fields::{
-    Field, CAR_SPEED, HEIGHT, RECEIVERS, RECEIVER_FIELDS, RECEIVER_SLOT, REFLECTION, SOURCES,
-    SOURCE_FIELDS, SOURCE_SLOT, SURFACE, WALLS, WALL_HEIGHT, WALL_SPACING,
+    Field, CAR_SPEED, FARTHEST, HEIGHT, LENGTH, RECEIVERS, RECEIVER_FIELDS, RECEIVER_SLOT,
+    REFLECTION, SOURCES, SOURCE_SLOT, SURFACE, WALLS, WALL_HEIGHT, WALL_SPACING,
 };
 use crate::fixed::sum_edges;
 use crate::inconsistent::{
-    asked, bad_pair, barely_asked, faint_level, high_sum, low_sum, met_by_receiver, met_by_source,
-    tight_level, tight_square,
+    asked, bad_pair, barely_asked, cut_pair, faint_level, high_sum, low_sum, met_by_receiver,
+    met_by_source, tight_level, tight_square,
 };
 use crate::limits::trial_value;
 use crate::probe::{Frame, LONGEST_IMAGE, LONGEST_PIECE};
 use crate::record::{kind_byte, unlisted_kinds, Record};
-use crate::road::{FAST_ABOVE, FAST_SURFACE};
+use crate::road::{Source, FAST_ABOVE, FAST_SURFACE};
 use crate::store::{
-    receiver_at, set_field, source_at, RECEIVERS_AT, RECEIVER_BYTES, RECEIVER_SIZE, SOURCE_BYTES,
-    SOURCE_SIZE, STORE_SIZE, SUMS,
+    receiver_at, receiver_index, set_field, source_at, source_index, BETWEEN_SLOT, RECEIVERS_AT,
+    RECEIVER_BYTES, RECEIVER_SIZE, SOURCE_BYTES, SOURCE_SIZE, STORE_SIZE, SUMS, UNCUT_SLOT,
 };
-use crate::town::{placing, road, Town, WIDE};
+use crate::town::{Town, WIDE};
 
 /// What makes one kind of probe.
 type Maker = fn(&mut Chance) -> Frame;
 
 /// The kinds of probes, with the names they are counted by.
-const KINDS: [(&str, Maker); 26] = [
+const KINDS: [(&str, Maker); 33] = [
     ("sound", sound),
     ("unread", unread),
     ("disallowed", disallowed),
@@ -36,6 +38,10 @@ const KINDS: [(&str, Maker); 26] = [
     ("unused", unused_byte),
     ("source-field", source_field),
     ("source-field", source_field),
+    ("source-field", source_field),
+    ("source-field", source_field),
+    ("course", course),
+    ("course", course),
     ("receiver-field", receiver_field),
     ("sum", sums),
     ("length", wrong_length),
@@ -47,6 +53,9 @@ const KINDS: [(&str, Maker); 26] = [
     ("met-by-source", met_by_source),
     ("met-by-source", met_by_source),
     ("met-by-receiver", met_by_receiver),
+    ("cut-pair", cut_pair),
+    ("cut-pair", cut_pair),
+    ("cut-pair", cut_pair),
     ("tight-square", tight_square),
     ("tight-level", tight_level),
     ("faint-level", faint_level),
@@ -190,8 +199,8 @@ fn disallowed(chance: &mut Chance) -> Frame {
 
 /// The bytes of a source with one field, or its surface, or two of these, not allowed.
 fn broken_source(chance: &mut Chance) -> Vec<u8> {
-    let (slot, road) = (chance.within(&SOURCE_SLOT), road(chance));
-    let place = placing(chance, slot, road);
+    let (slot, town) = (chance.within(&SOURCE_SLOT), Town::anywhere(chance));
+    let place = town.placing(chance, slot);
     let slow = place
         .with(&SURFACE, chance.between(FAST_SURFACE, SURFACE.most()))
         .with(&CAR_SPEED, chance.between(CAR_SPEED.least(), FAST_ABOVE));
@@ -204,8 +213,19 @@ fn broken_source(chance: &mut Chance) -> Vec<u8> {
     broken.bytes()
 }
 
-/// The same record with one field just past what is allowed.
+/// The same source between two ends with a length just past what is allowed.
+fn misstretched(chance: &mut Chance, source: Source) -> Source {
+    let wrong = |source: &Source| !LENGTH.allows(source.course.length());
+    let mut roads = stretched_roads(chance, source);
+    roads.retain(wrong);
+    chance.pick(&roads)
+}
+
+/// The same record with one field, or a length between ends, just past what is allowed.
 fn past_an_edge(chance: &mut Chance, mut place: Record) -> Record {
+    if let (7, Record::PlaceSource(slot, source), true) = (place.kind(), place, chance.one_in(3)) {
+        return Record::PlaceSource(slot, misstretched(chance, source));
+    }
     let breakable = |field: &&Field| !field.outer_edges(field.bits).is_empty();
     let fields: Vec<&Field> = place.fields()[1..].iter().filter(breakable).collect();
     let field = chance.pick(&fields);
@@ -287,18 +307,20 @@ fn unused_byte(chance: &mut Chance) -> Frame {
 
 /// A field of a standing source at its limit, beyond it, or beyond what a record can hold.
 fn source_field(chance: &mut Chance) -> Frame {
-    let (town, book) = settled(chance);
+    let (town, mut book) = settled(chance);
+    let slot = slot_in(chance, &book.sources, true);
+    if chance.one_in(3) {
+        book.sources[slot] = Some(town.between(chance));
+    }
+    let fields = match book.sources[slot].map(|source| source.course) {
+        Some(Course::Between { .. }) => &BETWEEN_SLOT,
+        _ => &UNCUT_SLOT,
+    };
     let record = fitting_record(chance, &town, &book);
     let mut frame = frame_of(&book, &record);
-    let at = source_at(slot_in(chance, &book.sources, true));
     let mut set = |field: &Field, value: i64| {
-        set_field(
-            &mut frame.image,
-            at,
-            &SOURCE_BYTES,
-            field.index(),
-            value as u64,
-        );
+        let (at, index) = (source_at(slot), source_index(field));
+        set_field(&mut frame.image, at, &SOURCE_BYTES, index, value as u64);
     };
     match chance.between(0, 9) {
         0 => {
@@ -318,9 +340,41 @@ fn source_field(chance: &mut Chance) -> Frame {
             }
         }
         _ => {
-            let field = chance.pick(&SOURCE_FIELDS[1..]);
+            let field = chance.pick(fields);
             set(&field, trial_value(chance, &field, field.stored_bits()));
         }
+    }
+    frame
+}
+
+/// A standing source whose course is told anew, by a byte and four numbers that may be taken for
+/// ends, for a middle and a length, or for neither.
+fn course(chance: &mut Chance) -> Frame {
+    let (town, book) = settled(chance);
+    let record = fitting_record(chance, &town, &book);
+    let mut frame = frame_of(&book, &record);
+    let slot = slot_in(chance, &book.sources, true);
+    let mut numbers = [(); 4].map(|()| match chance.between(0, 5) {
+        0 => chance.pick(&[1, FARTHEST]),
+        1 => LENGTH.most() + chance.between(-1, 1),
+        2 => chance.magnitude(LENGTH.most()),
+        _ => 0,
+    });
+    if chance.one_in(4) {
+        (numbers[2], numbers[3]) = (numbers[0], numbers[1]);
+    }
+    let told = chance.pick(&[0, 0, 0, 1, 1, 1, 2, 3, 128, 255]);
+    for (index, value) in [told].into_iter().chain(numbers).enumerate() {
+        set_field(
+            &mut frame.image,
+            source_at(slot),
+            &SOURCE_BYTES,
+            index,
+            value as u64,
+        );
+    }
+    if chance.one_in(2) {
+        frame.record = Record::WithdrawSource(slot as i64).bytes();
     }
     frame
 }
@@ -334,13 +388,8 @@ fn receiver_field(chance: &mut Chance) -> Frame {
     let any = chance.pick(&RECEIVER_FIELDS[1..]);
     let field = chance.pick(&[any, HEIGHT]);
     let value = trial_value(chance, &field, field.stored_bits());
-    set_field(
-        &mut frame.image,
-        at,
-        &RECEIVER_BYTES,
-        field.index(),
-        value as u64,
-    );
+    let index = receiver_index(&field);
+    set_field(&mut frame.image, at, &RECEIVER_BYTES, index, value as u64);
     frame
 }
 
@@ -380,9 +429,11 @@ fn dense(chance: &mut Chance) -> Frame {
     let town = Town::of_width(chance, WIDE);
     let mut book = Book::cleared();
     for slot in &mut book.sources {
-        let mut source = town.source(chance);
-        source.length = chance.magnitude(100);
-        *slot = Some(source);
+        let source = town.source(chance);
+        *slot = Some(match source.course {
+            Course::Uncut { .. } => source.uncut(chance.magnitude(100)),
+            Course::Between { .. } => source,
+        });
     }
     for slot in &mut book.accounts {
         let receiver = town.receiver(chance);

@@ -3,9 +3,11 @@
 
 use crate::book::{Answer, Book};
 use crate::chance::Chance;
+use crate::course::{Course, Point};
+use crate::cuts::{span, spanned, within};
 use crate::daily::Daily;
 use crate::fields::{
-    Field, CAR_SPEED, CLASS, DTV, FARTHEST, HEIGHT, LANES, MINUS, RECEIVERS, RECEIVER_SLOT,
+    Field, CAR_SPEED, CLASS, DTV, FARTHEST, HEIGHT, LANES, LENGTH, MINUS, RECEIVERS, RECEIVER_SLOT,
     REFLECTION, SOURCES, STEEPEST, SURFACE, TRUCKS, TRUCK_SPEED, VEHICLES, WALLS, WALL_HEIGHT,
     WALL_SPACING,
 };
@@ -64,16 +66,29 @@ impl Town {
         Receiver { x, y, height }
     }
 
+    /// A source that is uncut or, every third time, between two ends.
     pub fn source(&self, chance: &mut Chance) -> Source {
+        if chance.one_in(3) {
+            return self.between(chance);
+        }
         let (x, y) = self.spot(chance);
+        road(chance).moved(x, y)
+    }
+
+    /// A source between two ends in this town.
+    pub fn between(&self, chance: &mut Chance) -> Source {
+        let (x, y) = self.spot(chance);
+        let length = chance.magnitude(LENGTH.most());
+        let (dx, dy) = span(chance, length);
+        let u = within(x, dx, (self.x, self.x + self.width));
+        let v = within(y, dy, (self.y, self.y + self.width));
         Source {
-            x,
-            y,
+            course: Course::between(x, y, u, v),
             ..road(chance)
         }
     }
 
-    /// A record that places a source, told in either way.
+    /// A record that places a source, told in any way.
     pub fn placing(&self, chance: &mut Chance, slot: i64) -> Record {
         let source = self.source(chance);
         placing(chance, slot, source)
@@ -159,9 +174,7 @@ pub fn road(chance: &mut Chance) -> Source {
     let car_speed = speed(chance, &CAR_SPEED);
     let (walls, wall_height, wall_spacing) = walls(chance);
     Source {
-        x: 0,
-        y: 0,
-        length: chance.magnitude(6000),
+        course: Course::uncut(0, 0, chance.magnitude(6000)),
         several_lanes: chance.within(&LANES),
         car_speed,
         truck_speed: speed(chance, &TRUCK_SPEED),
@@ -175,6 +188,17 @@ pub fn road(chance: &mut Chance) -> Source {
     }
 }
 
+/// An allowed road around no place in particular: uncut or, every third time, between two ends.
+pub fn any_road(chance: &mut Chance) -> Source {
+    let road = road(chance);
+    if !chance.one_in(3) {
+        return road;
+    }
+    let length = chance.magnitude(LENGTH.most());
+    let course = spanned(Point::default(), span(chance, length));
+    Source { course, ..road }
+}
+
 /// A road with any class and daily figure in place of its traffic.
 pub fn by_day(chance: &mut Chance, road: Source) -> Daily {
     let class = chance.within(&CLASS);
@@ -186,10 +210,11 @@ pub fn by_day(chance: &mut Chance, road: Source) -> Daily {
     Daily::new(road, class, dtv)
 }
 
-/// A record that places a source as it is, or every third time with a daily figure in place of
-/// its traffic.
+/// A record that places a source as it is, or, one that is not cut, every third time with a daily
+/// figure in place of its traffic.
 pub fn placing(chance: &mut Chance, slot: i64, source: Source) -> Record {
-    if chance.one_in(3) {
+    let uncut = matches!(source.course, Course::Uncut { .. });
+    if uncut && chance.one_in(3) {
         Record::PlaceDaily(slot, by_day(chance, source))
     } else {
         Record::PlaceSource(slot, source)

@@ -3,11 +3,14 @@
 
 use crate::book::Answer;
 use crate::chance::Chance;
-use crate::fields::{Field, RECEIVERS, RECEIVER_SLOT, SOURCES, SOURCE_FIELDS, SOURCE_SLOT};
+use crate::cuts::{corner_roads, stretched_roads};
+use crate::fields::{
+    Field, BETWEEN_FIELDS, RECEIVERS, RECEIVER_SLOT, SECOND_Y, SOURCES, SOURCE_SLOT,
+};
 use crate::fixed::{one_of_each, surfaced_records, trial_records};
 use crate::limits::trial_values;
 use crate::probe::{front, head, number, Deed, LONGEST_PIECE};
-use crate::record::{length_of, read, write, Record, LONGEST};
+use crate::record::{fields_of, length_of, read, write, Record, LONGEST};
 use crate::town::Town;
 
 /// A call and the bytes there are for its record, all FF before.
@@ -20,13 +23,14 @@ pub struct Writing {
 /// What a frame begins with that asks for writing.
 const MARK: [u8; 2] = [0, 1];
 
-/// Bytes of the slot, and of the fields of a source, which are the most that there are.
+/// Bytes of the slot, and of the fields of a source between two ends, which are the most that
+/// there are.
 const SLOT: usize = 2;
 const FIELDS: usize = {
     let mut bytes = 0;
     let mut at = 1;
-    while at < SOURCE_FIELDS.len() {
-        bytes += SOURCE_FIELDS[at].type_bytes();
+    while at < BETWEEN_FIELDS.len() {
+        bytes += BETWEEN_FIELDS[at].type_bytes();
         at += 1;
     }
     bytes
@@ -46,11 +50,21 @@ pub fn bits_of(field: &Field) -> u32 {
     8 * bytes_of(field) as u32
 }
 
-/// What the bytes after the last field hold, which say nothing. Where a daily figure takes the place
-/// of traffic they are such that a program which took them for traffic is found out.
+/// The fields of a kind, an ask's where it is not listed, in the order of such a frame: the number
+/// that two ends have more than a middle and a length comes after all that they have in common.
+fn framed(kind: u8) -> Vec<Field> {
+    let fields = fields_of(kind).unwrap_or(&[RECEIVER_SLOT]);
+    let (last, mut order): (Vec<Field>, Vec<Field>) =
+        fields.iter().partition(|&field| field == &SECOND_Y);
+    order.extend(last);
+    order
+}
+
+/// What the bytes after the last field hold, which say nothing. After a source they are such that
+/// a program which took them for traffic or for an end is found out.
 fn filler(record: &Record) -> u8 {
     match record {
-        Record::PlaceDaily(..) => 0xff,
+        Record::PlaceSource(..) | Record::PlaceDaily(..) => 0xff,
         _ => 0,
     }
 }
@@ -62,8 +76,9 @@ impl Writing {
         out.extend((self.room as u16).to_be_bytes());
         out.push(self.record.kind());
         let end = out.len() + SLOT + FIELDS;
-        for (value, field) in self.record.values().into_iter().zip(self.record.fields()) {
-            out.extend(&value.to_be_bytes()[8 - bytes_of(field)..]);
+        for field in framed(self.record.kind()) {
+            let value = self.record.value(&field);
+            out.extend(&value.to_be_bytes()[8 - bytes_of(&field)..]);
         }
         out.resize(end, filler(&self.record));
     }
@@ -75,8 +90,10 @@ impl Writing {
         let kind = front(&mut rest, 1)?[0];
         let mut left = front(&mut rest, SLOT + FIELDS)?;
         *input = rest;
+        let fields = framed(kind);
         let next = |field: &Field| front(&mut left, bytes_of(field)).map_or(0, number) as i64;
-        let record = Record::of(kind, next);
+        let values: Vec<i64> = fields.iter().map(next).collect();
+        let record = Record::of(kind, |field| values[field.index_in(&fields)]);
         Some(Writing { record, room })
     }
 
@@ -103,7 +120,11 @@ impl Writing {
 pub fn writing(seed: u64) -> Writing {
     let chance = &mut Chance::new(seed);
     let town = Town::anywhere(chance);
-    let mut record = town.record(chance, SOURCES, RECEIVERS);
+    let slot = chance.within(&SOURCE_SLOT);
+    let mut record = match chance.between(0, 1) {
+        0 => town.placing(chance, slot),
+        _ => town.record(chance, SOURCES, RECEIVERS),
+    };
     for _ in 0..chance.pick(&[0, 0, 1, 1, 2]) {
         record = changed(chance, record);
     }
@@ -114,12 +135,19 @@ pub fn writing(seed: u64) -> Writing {
     Writing { record, room }
 }
 
-/// The same record with its slot or a field at a limit, beyond it, or beyond what a record holds.
+/// The same record with its slot or a field at a limit, beyond it, or beyond what a record holds;
+/// or with other ends, at the corners of the map or just as far apart as they may be.
 fn changed(chance: &mut Chance, record: Record) -> Record {
+    if let (7, Record::PlaceSource(slot, source), true) = (record.kind(), record, chance.one_in(4))
+    {
+        let mut roads = stretched_roads(chance, source);
+        roads.extend(corner_roads(chance, source));
+        return Record::PlaceSource(slot, chance.pick(&roads));
+    }
     let at = chance.index(record.fields().len());
     let field = &record.fields()[at];
     let mut values = trial_values(chance, field, bits_of(field));
-    values.push(record.values()[at]);
+    values.push(record.value(field));
     let value = chance.pick(&values);
     record.with(field, lifted(chance, value, field))
 }

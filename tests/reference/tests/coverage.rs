@@ -2,7 +2,7 @@
 // Number 7 is not among them: no allowed speeds make a truck quieter than a car.
 
 use reference::book::{decode, Answer, Book};
-use reference::fields::{Field, CAR_SPEED, SURFACE};
+use reference::fields::{Field, CAR_SPEED, LENGTH, SURFACE};
 use reference::fixed::{fixed_frames, fixed_jobs};
 use reference::jobs::job;
 use reference::listing::{list, Tally};
@@ -147,7 +147,7 @@ fn probes_meet_every_refusal() {
         assert!(counts[number] >= 3, "refusal {number}");
     }
     for (kind, met) in late.into_iter().enumerate() {
-        let possible = [3, 4, 6].contains(&kind);
+        let possible = [3, 4, 6, 7].contains(&kind);
         assert!(possible == (met >= 5), "late 1 of records of kind {kind}");
         assert!(possible || met == 0, "late 1 of records of kind {kind}");
     }
@@ -217,19 +217,20 @@ fn named_although(kind: u8, field: &Field, wrong: impl Fn(&Record) -> bool) -> b
 
 #[test]
 fn fixed_writings_of_sources_have_more_than_one_field_wrong() {
-    for kind in [3, 6] {
+    for kind in [3, 6, 7] {
         let fields = fields_of(kind).unwrap();
-        let value = |record: &Record, field: &Field| record.values()[usize::from(field.number) - 1];
         for pair in fields.windows(2) {
-            let next_wrong = |record: &Record| !pair[1].allows(value(record, &pair[1]));
+            let next_wrong = |record: &Record| !pair[1].allows(record.value(&pair[1]));
             assert!(named_although(kind, &pair[0], next_wrong), "{pair:?}");
         }
         let slow = |record: &Record| {
-            let fast_surface = value(record, &SURFACE) >= FAST_SURFACE;
-            fast_surface && value(record, &CAR_SPEED) <= FAST_ABOVE
+            let fast_surface = record.value(&SURFACE) >= FAST_SURFACE;
+            fast_surface && record.value(&CAR_SPEED) <= FAST_ABOVE
         };
         assert!(named_although(kind, &fields[fields.len() - 1], slow));
     }
+    let no_speed = |record: &Record| record.value(&CAR_SPEED) == 0;
+    assert!(named_although(7, &LENGTH, no_speed));
 }
 
 #[test]

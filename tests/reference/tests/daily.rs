@@ -2,6 +2,7 @@
 // every refusal with its place, and the bytes of a call to write one.
 
 use reference::book::{apply_stored, encode, Answer, Book, TOP};
+use reference::course::Course;
 use reference::daily::Daily;
 use reference::fields::{CLASS, DTV, SOURCE_SLOT, SURFACE, WALL_HEIGHT, WALL_SPACING};
 use reference::fixed::{example_receiver, example_source};
@@ -12,9 +13,7 @@ use reference::writing::Writing;
 /// A street with a value of its own in every field.
 fn street() -> Source {
     Source {
-        x: 102_500,
-        y: 100_000,
-        length: 1000,
+        course: Course::uncut(102_500, 100_000, 1000),
         several_lanes: 1,
         car_speed: 50,
         truck_speed: 30,
@@ -205,9 +204,7 @@ fn walls_are_judged_as_for_any_source() {
 /// A road so near and busy that only its length is still allowed.
 fn loud_road() -> Source {
     Source {
-        x: 100_358,
-        y: 100_000,
-        length: 250,
+        course: Course::uncut(100_358, 100_000, 250),
         car_speed: 130,
         truck_speed: 80,
         surface: 4,
@@ -222,18 +219,9 @@ fn loud_road() -> Source {
 #[test]
 fn the_book_refuses_it_as_any_source() {
     let place = |source, dtv| with_receiver().place_daily(0, &Daily::new(source, 0, dtv));
-    let near = Source {
-        x: 100_357,
-        ..loud_road()
-    };
-    let far = Source {
-        x: 400_000,
-        ..loud_road()
-    };
-    let long = Source {
-        length: 251,
-        ..loud_road()
-    };
+    let near = loud_road().moved(100_357, 100_000);
+    let far = loud_road().moved(400_000, 100_000);
+    let long = loud_road().uncut(251);
     assert_eq!(place(near, 1), Err(refused(10, 5)));
     assert_eq!(place(far, 1), Err(refused(11, 5)));
     assert_eq!(place(long, 1), Err(refused(12, 5)));
@@ -270,7 +258,7 @@ fn a_call_to_write_has_all_the_bytes_of_the_types() {
     let mut frame = Vec::new();
     Writing { record, room: 32 }.put(&mut frame);
     let (head, call) = frame.split_at(4);
-    assert_eq!((head, call.len()), (&[0, 1, 0, 32][..], 44));
+    assert_eq!((head, call.len()), (&[0, 1, 0, 32][..], 48));
     assert_eq!(call[..3], [6, 0x12, 0x34]);
     let road = [
         0, 1, 0x90, 0x64, 0, 1, 0x86, 0xa0, 0, 0, 3, 0xe8, 1, 50, 30, 2, 131, 1, 2, 2, 0x58, 4,
@@ -278,5 +266,5 @@ fn a_call_to_write_has_all_the_bytes_of_the_types() {
     ];
     assert_eq!(call[3..26], road);
     assert_eq!(call[26..31], [0xfe, 0xfe, 0xdc, 0xba, 0x98]);
-    assert_eq!(call[31..], [0xff; 13]);
+    assert_eq!(call[31..], [0xff; 17]);
 }

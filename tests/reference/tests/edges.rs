@@ -3,17 +3,16 @@
 
 use reference::book::{decode, Book, TOP};
 use reference::chance::Chance;
-use reference::fields::{widest, Field};
+use reference::course::{Course, Piece};
+use reference::fields::{widest, Field, LENGTH};
 use reference::fixed::{fixed_frames, fixed_jobs};
 use reference::jobs::job;
-use reference::limits::{way_of_square, FAR_STEPS, HALVES, NEAR_STEPS};
+use reference::limits::{uncut_levels, way_of_square, FAR_STEPS, HALVES, NEAR_STEPS};
 use reference::probe::Frame;
 use reference::record::{extent, fields_of, listed_kinds, take, Record};
-use reference::road::{
-    emission, share_levels, squares, Receiver, Source, FARTHEST_SQUARE, LOUDEST, NEAREST_SQUARE,
-};
+use reference::road::{Receiver, Refusal, Source, FARTHEST_SQUARE, LOUDEST, NEAREST_SQUARE};
 use reference::store::{
-    receiver_at, unpack, RECEIVER_BYTES, RECEIVER_SIZE, SOURCE_BYTES, SOURCE_SIZE, STORE_SIZE, SUMS,
+    receiver_at, take_source, unpack, RECEIVER_BYTES, RECEIVER_SIZE, SOURCE_SIZE, STORE_SIZE, SUMS,
 };
 use reference::stores::frame;
 use reference::writing::{bits_of, fixed_writings, writing};
@@ -24,11 +23,14 @@ use std::ops::RangeInclusive;
 const SEEDS: RangeInclusive<u64> = 1..=2000;
 
 /// The kinds of records that place what has fields in the store.
-const PLACINGS: [u8; 2] = [1, 3];
+const PLACINGS: [u8; 3] = [1, 3, 7];
 
-/// A value of a field that is to be met: the kind of record, the field's number, the value, and
-/// whether the record is to be accepted or refused for this field.
-type Edge = (u8, u16, i64, bool);
+/// The kind of record that has a length which follows from others of its fields.
+const BETWEEN: u8 = 7;
+
+/// A value of a field that is to be met: the kind of record, where the field is among those that
+/// are judged, the value, and whether the record is to be accepted or refused for this field.
+type Edge = (u8, usize, i64, bool);
 
 /// The edges that were not met yet.
 struct Missed(BTreeSet<Edge>);
@@ -59,15 +61,60 @@ fn edges_without_walls(field: &Field) -> Vec<(i64, bool)> {
     }
 }
 
+/// The edges of a length that follows from the ends: one step on either side of what is allowed.
+fn edges_of_length() -> Vec<(i64, bool)> {
+    let (least, most) = (LENGTH.least(), LENGTH.most());
+    vec![
+        (least - 1, false),
+        (least, true),
+        (most, true),
+        (most + 1, false),
+    ]
+}
+
+/// The fields of a kind, and last the length where it follows from the ends.
+fn judged_fields(kind: u8) -> Vec<Field> {
+    let mut fields = fields_of(kind).unwrap().to_vec();
+    if kind == BETWEEN {
+        fields.push(LENGTH);
+    }
+    fields
+}
+
+/// The values of these fields. A length follows only from ends that are on the map.
+fn judged_values(record: &Record) -> Vec<i64> {
+    let mut values = record.values();
+    if let Record::PlaceSource(_, source) = record {
+        let course = source.course;
+        let mut ends = course.fields().iter().zip(course.values());
+        if record.kind() == BETWEEN && ends.all(|(field, value)| field.allows(value)) {
+            values.push(course.length());
+        }
+    }
+    values
+}
+
+/// Whether a refusal is for one of these fields: of those that have its number, the first whose
+/// value is not allowed.
+fn is_for(refusal: Refusal, at: usize, fields: &[Field], values: &[i64]) -> bool {
+    let of_number = |&other: &usize| fields[other].number == fields[at].number;
+    let wrong = |&other: &usize| !fields[other].allows(values[other]);
+    let refused = (refusal.number, refusal.place) == (5, fields[at].number);
+    refused && !(0..at).filter(of_number).any(|other| wrong(&other))
+}
+
 impl Missed {
     /// All edges of records of these kinds, where every field has so many bits.
     fn all(kinds: &[u8], bits: impl Fn(&Field) -> u32) -> Missed {
         let mut edges = BTreeSet::new();
         for &kind in kinds {
-            for field in fields_of(kind).unwrap() {
-                let mut of_field = edges_of(field, bits(field));
+            for (at, field) in judged_fields(kind).iter().enumerate() {
+                let mut of_field = match field {
+                    &LENGTH if kind == BETWEEN => edges_of_length(),
+                    _ => edges_of(field, bits(field)),
+                };
                 of_field.extend(edges_without_walls(field));
-                let named = |(value, good)| (kind, field.number, value, good);
+                let named = |(value, good)| (kind, at, value, good);
                 edges.extend(of_field.into_iter().map(named));
             }
         }
@@ -77,19 +124,19 @@ impl Missed {
     /// All edges of stored fields; the number of a slot is not stored.
     fn stored() -> Missed {
         let mut edges = Missed::all(&PLACINGS, Field::stored_bits).0;
-        edges.retain(|&(_, number, ..)| number != 1);
+        edges.retain(|&(_, at, ..)| at != 0);
         Missed(edges)
     }
 
     /// Takes off what a record meets.
     fn meet(&mut self, record: &Record) {
         let judged = record.judge();
-        let fields = fields_of(record.kind()).unwrap();
-        for (field, value) in fields.iter().zip(record.values()) {
+        let (fields, values) = (judged_fields(record.kind()), judged_values(record));
+        for (at, &value) in values.iter().enumerate() {
             let good = judged.is_ok();
-            let named = judged.is_err_and(|no| (no.number, no.place) == (5, field.number));
+            let named = judged.is_err_and(|refusal| is_for(refusal, at, &fields, &values));
             if good || named {
-                self.0.remove(&(record.kind(), field.number, value, good));
+                self.0.remove(&(record.kind(), at, value, good));
             }
         }
     }
@@ -114,8 +161,8 @@ impl Missed {
 
     /// Fails if any is left, and names it.
     fn none(&self, cases: &str) {
-        let named = |&(kind, number, value, good): &Edge| {
-            let field = fields_of(kind).unwrap()[usize::from(number) - 1];
+        let named = |&(kind, at, value, good): &Edge| {
+            let field = judged_fields(kind)[at];
             let side = if good { "allowed" } else { "refused" };
             format!("{} {value} of kind {kind}, {side}", field.name)
         };
@@ -128,10 +175,7 @@ impl Missed {
 fn sources_in(image: &[u8]) -> impl Iterator<Item = Record> + '_ {
     let slots = image[..receiver_at(0)].chunks_exact(SOURCE_SIZE);
     let used = (0..).zip(slots).filter(|(_, slot)| slot[0] == 1);
-    used.map(|(number, slot)| {
-        let fields = unpack(slot, &SOURCE_BYTES).map(|value| value as i64);
-        Record::PlaceSource(number, Source::of_fields(fields))
-    })
+    used.filter_map(|(number, slot)| Some(Record::PlaceSource(number, take_source(slot)?)))
 }
 
 /// The receivers in a stored state, whether allowed or not, with their sums.
@@ -162,7 +206,7 @@ fn jobs_meet_every_edge_of_every_field() {
 #[test]
 fn writings_meet_every_edge_of_every_field() {
     let mut missed = Missed::all(&listed_kinds(), bits_of);
-    (1..=40_000).for_each(|seed| missed.meet(&writing(seed).record));
+    (1..=120_000).for_each(|seed| missed.meet(&writing(seed).record));
     missed.none("writings by chance");
     missed = Missed::all(&listed_kinds(), bits_of);
     let fixed = fixed_writings();
@@ -186,13 +230,13 @@ fn fixed_probes_meet_every_edge_of_every_field() {
 
 #[test]
 fn stored_states_by_chance_meet_both_sides_of_every_field() {
-    let sides = |edges: &Missed| -> BTreeSet<(u8, u16, bool)> {
-        let side = |&(kind, number, _, good): &Edge| (kind, number, good);
+    let sides = |edges: &Missed| -> BTreeSet<(u8, usize, bool)> {
+        let side = |&(kind, at, _, good): &Edge| (kind, at, good);
         edges.0.iter().map(side).collect()
     };
     let all = Missed::stored();
     let mut missed = Missed(all.0.clone());
-    SEEDS.for_each(|seed| missed.meet_image(&frame(seed).image));
+    (1..=4000).for_each(|seed| missed.meet_image(&frame(seed).image));
     let met = Missed(&all.0 - &missed.0);
     assert_eq!(&sides(&all) - &sides(&met), BTreeSet::new());
 }
@@ -275,14 +319,17 @@ impl Pairs {
     }
 
     fn meet(&mut self, source: &Source, receiver: &Receiver) {
-        let (_, square) = squares(source, receiver);
-        let excess = 4 * source.length * source.length - square;
+        let Course::Uncut { middle, length } = source.course else {
+            return;
+        };
+        let square = Piece::new(middle, length, receiver).in_space;
+        let excess = 4 * length * length - square;
         self.near.meet(square);
         self.far.meet(square);
         if (NEAREST_SQUARE..=FARTHEST_SQUARE).contains(&square) {
             self.long.meet(excess);
             if excess <= 0 {
-                let levels = share_levels(source, &emission(source), receiver);
+                let levels = uncut_levels(source, receiver);
                 levels.iter().flatten().for_each(|&level| {
                     self.loud.meet(level);
                     self.faint.meet(level);

@@ -1,8 +1,9 @@
 // The example job that is handed out, held against its listing.
 // Whoever changes one of the two has to make the other anew.
 
+use reference::course::{pieces, Course};
 use reference::listing::list;
-use reference::record::{extent, kind_in, listed_kinds};
+use reference::record::{extent, listed_kinds, read, Record};
 use std::collections::BTreeSet;
 use std::path::Path;
 
@@ -11,22 +12,50 @@ fn example(name: &str) -> Vec<u8> {
     std::fs::read(folder.join(name)).unwrap()
 }
 
+/// The records of the example job.
+fn records() -> Vec<Record> {
+    let job = example("bypass.job");
+    let mut rest = job.as_slice();
+    let mut records = Vec::new();
+    while !rest.is_empty() {
+        records.push(read(rest).unwrap().0);
+        rest = &rest[extent(rest)..];
+    }
+    records
+}
+
 #[test]
 fn the_bypass_has_its_listing() {
     let mut listing = Vec::new();
     let tally = list(&example("bypass.job"), &mut listing);
     assert_eq!(listing, example("bypass.listing"));
-    assert_eq!(tally.refusals.iter().sum::<u64>(), 1);
+    assert_eq!((tally.refusals[10], tally.refusals.iter().sum()), (1, 1));
 }
 
 #[test]
 fn the_bypass_has_records_of_every_kind() {
-    let job = example("bypass.job");
-    let mut rest = job.as_slice();
-    let mut kinds = BTreeSet::new();
-    while let Some(&first) = rest.first() {
-        kinds.insert(kind_in(first));
-        rest = &rest[extent(rest)..];
-    }
+    let kinds: BTreeSet<u8> = records().iter().map(Record::kind).collect();
     assert_eq!(kinds, BTreeSet::from_iter(listed_kinds()));
+}
+
+#[test]
+fn every_road_of_the_bypass_is_cut_before_some_receiver_and_whole_before_another() {
+    let receivers: Vec<_> = records()
+        .into_iter()
+        .filter_map(|record| match record {
+            Record::PlaceReceiver(_, receiver) => Some(receiver),
+            _ => None,
+        })
+        .collect();
+    let sources = records().into_iter().filter_map(|record| record.source());
+    let courses = sources.map(|source| source.course);
+    let roads: Vec<Course> = courses
+        .filter(|course| matches!(course, Course::Between { .. }))
+        .collect();
+    assert!(roads.len() >= 10);
+    for road in roads {
+        let counts = receivers.iter().map(|here| pieces(&road, here).len());
+        let counts: BTreeSet<usize> = counts.collect();
+        assert!(counts.contains(&1) && counts.len() > 1, "{road:?}");
+    }
 }

@@ -2,20 +2,22 @@
 // Also what the rules say of refusals, on the smallest books that show it.
 
 use reference::book::{clear, decode, encode, Answer, Book, Levels, TOP};
+use reference::course::{pieces, Course};
 use reference::daily::Daily;
 use reference::fields::{Field, GRADIENT, HEIGHT, RECEIVERS, SOURCES, SURFACE};
 use reference::fixed::{example, example_receiver, example_source};
 use reference::level::{energy, entry, level, lv};
+use reference::limits::uncut_levels;
 use reference::listing::list;
 use reference::record::{length_of, listed_kinds, read, write, Record};
 use reference::road::{
-    car_level, distance_term, emission, gradient_term, ground_term, root, share_levels, speed_term,
-    squares, traffic_term, truck_excess, truck_level, wall_term, Receiver, Refusal, Source,
-    Traffic, GREATEST_SHARE, LOUDEST,
+    car_level, distance_term, gradient_term, ground_term, root, speed_term, traffic_term,
+    truck_excess, truck_level, wall_term, Receiver, Refusal, Source, Traffic, GREATEST_SHARE,
+    LOUDEST,
 };
 use reference::store::{
-    field_at, receiver_at, source_at, RECEIVER_BYTES, RECEIVER_SIZE, SOURCE_BYTES, SOURCE_SIZE,
-    STORE_SIZE, SUMS,
+    field_at, receiver_at, source_at, source_index, RECEIVER_BYTES, RECEIVER_SIZE, SOURCE_BYTES,
+    SOURCE_SIZE, STORE_SIZE, SUMS,
 };
 
 /// The last slot of a source.
@@ -40,14 +42,13 @@ fn walled(walls: i64, wall_height: i64, wall_spacing: i64) -> Source {
 
 fn at(x: i64, length: i64) -> Source {
     Source {
-        x,
-        length,
+        course: Course::uncut(x, 100_000, length),
         ..example_source()
     }
 }
 
 fn levels_of(source: &Source) -> [Option<i64>; 3] {
-    share_levels(source, &emission(source), &example_receiver())
+    uncut_levels(source, &example_receiver())
 }
 
 fn with_receiver() -> Book {
@@ -122,7 +123,7 @@ fn gradients_and_walls() {
 #[test]
 fn the_case_at_25_m() {
     let source = example_source();
-    let (_, square) = squares(&source, &example_receiver());
+    let square = pieces(&source.course, &example_receiver())[0].in_space;
     assert_eq!(square, 6_372_500);
     assert_eq!(root(square), 2524);
     assert_eq!(distance_term(square, 2524), 1696);
@@ -148,7 +149,7 @@ fn the_case_at_25_m_once_and_twice() {
 #[test]
 fn the_case_at_100_m() {
     let source = at(110_000, 1000);
-    let (_, square) = squares(&source, &example_receiver());
+    let square = pieces(&source.course, &example_receiver())[0].in_space;
     assert_eq!(root(square), 10_006);
     assert_eq!(distance_term(square, 10_006), 2930);
     assert_eq!(ground_term(450, 10_006), 391);
@@ -191,7 +192,7 @@ fn quiet_and_faint_levels_in_the_listing() {
     let mut job = Record::PlaceReceiver(5, example_receiver()).bytes();
     job.extend(Record::PlaceSource(0, source).bytes());
     job.extend(Record::Ask(5).bytes());
-    job.push(0x70);
+    job.push(0x80);
     let mut listing = Vec::new();
     list(&job, &mut listing);
     assert_eq!(listing, b"3 R05 --.- --.-\n4 E03\nEND 4\n");
@@ -202,7 +203,7 @@ fn the_reader_says_the_lowest_number() {
     let number = |bytes: &[u8]| read(bytes).map_err(|refusal| (refusal.number, refusal.place));
     assert_eq!(number(&[]), Err((2, 0)));
     assert_eq!(number(&[0x11]), Err((2, 0)));
-    assert_eq!(number(&[0x71]), Err((3, 0)));
+    assert_eq!(number(&[0x81]), Err((3, 0)));
     assert_eq!(number(&[0x51, 0x41]), Err((4, 0)));
     let low = Receiver {
         height: HEIGHT.least() - 1,
@@ -332,9 +333,9 @@ fn slots_stand_before_the_other_fields() {
 #[test]
 fn sizes_come_out_as_on_paper() {
     let lengths: Vec<_> = listed_kinds().into_iter().map(length_of).collect();
-    assert_eq!(lengths, [9, 2, 30, 2, 2, 20].map(Some));
-    assert_eq!((SOURCE_SIZE, RECEIVER_SIZE), (36, 33));
-    assert_eq!((receiver_at(0), STORE_SIZE), (18_432, 20_544));
+    assert_eq!(lengths, [9, 2, 30, 2, 2, 20, 34].map(Some));
+    assert_eq!((SOURCE_SIZE, RECEIVER_SIZE), (40, 33));
+    assert_eq!((receiver_at(0), STORE_SIZE), (20_480, 22_592));
     assert_eq!(TOP, 512 * 10i64.pow(15));
     assert_eq!(energy(LOUDEST), GREATEST_SHARE);
 }
@@ -384,7 +385,7 @@ fn a_withdrawal_that_no_history_has_is_late_damage() {
     book.accounts[5].as_mut().unwrap().sums[2] -= 1;
     assert_eq!(book.withdraw_source(0), refused(1, 0));
     book = sound.clone();
-    book.sources[0].as_mut().unwrap().length = 1263;
+    book.sources[0] = Some(at(102_500, 1263));
     book.accounts[5].as_mut().unwrap().sums = [TOP; 3];
     assert_eq!(book.withdraw_source(0), refused(1, 0));
     book.withdraw_receiver(5).unwrap();
@@ -406,12 +407,12 @@ fn stored_states_come_back_and_damage_is_seen() {
         decode(&image).is_none()
     };
     let last = source_at(LAST as usize);
-    let field = |field: &Field| field_at(last, &SOURCE_BYTES, field.index());
+    let field = |field: &Field| field_at(last, &SOURCE_BYTES, source_index(field));
     let sum = field_at(receiver_at(5), &RECEIVER_BYTES, SUMS);
     assert!(damaged(0, 1) && damaged(0, 2) && damaged(SOURCE_SIZE - 1, 1));
     assert!(damaged(last, 0) && damaged(field(&SURFACE), 0) && damaged(field(&GRADIENT), 128));
     assert!(damaged(receiver_at(5), 2) && damaged(sum, 8));
-    assert!(!damaged(sum, 7) && !damaged(last + 1, 9));
+    assert!(!damaged(sum, 7) && !damaged(last + 2, 9));
 }
 
 #[test]

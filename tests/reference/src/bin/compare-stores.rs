@@ -39,7 +39,7 @@ impl Tally {
 
     fn count_late(&mut self, record: &[u8]) {
         match kind_in(record[0]) {
-            3 | 6 => self.late_placing += 1,
+            3 | 6 | 7 => self.late_placing += 1,
             _ => self.late_withdrawing += 1,
         }
     }

@@ -1,36 +1,37 @@
-// Prints the example job: a bypass that bends around a village, cut into sixty pieces, and a side street.
-// One receiver is placed so near that a piece is too long for it (refusal 12), to show what a refusal looks like.
+// Prints the example job: a bypass that bends around a village, in ten roads which the book cuts,
+// and a side street. One receiver is placed on the road itself, to show a refusal (10).
 
+use reference::course::Course;
 use reference::daily::Daily;
 use reference::fields::HEIGHT;
 use reference::record::Record;
-use reference::road::{root, Receiver, Source, Traffic};
+use reference::road::{Receiver, Source, Traffic};
 use std::io::{self, Write};
 
-const PIECES: i64 = 60;
+const ROADS: i64 = 10;
 const FIRST_SLOT: i64 = 100;
 
-/// Where the road is after so many pieces: a bend that is flattest in the middle.
-fn node(piece: i64) -> (i64, i64) {
-    let from_middle = piece - PIECES / 2;
+/// Lengths of 20 m along the bend, and how many of them a road has.
+const STEP: i64 = 2000;
+const ROAD_STEPS: i64 = 6;
+
+/// Where the bend is after so many steps; it is flattest in the middle.
+fn bend(steps: i64) -> (i64, i64) {
+    let from_middle = steps - ROADS * ROAD_STEPS / 2;
     (
-        400_000 + 2000 * piece,
+        400_000 + STEP * steps,
         500_000 + 10 * from_middle * from_middle,
     )
 }
 
-/// A piece of the bypass as a federal road of 12000 vehicles a day, 100 km/h, mastic asphalt.
-fn piece(number: i64) -> Source {
-    let ((x1, y1), (x2, y2)) = (node(number), node(number + 1));
-    let (dx, dy) = (x2 - x1, y2 - y1);
+/// A federal road of 12000 vehicles a day, 100 km/h, mastic asphalt.
+fn federal(course: Course) -> Source {
     let traffic = [62, 42, 11].map(|thousandths| Traffic {
         vehicles: 12_000 * thousandths,
         trucks: 200,
     });
     Source {
-        x: (x1 + x2) / 2,
-        y: (y1 + y2) / 2,
-        length: root(dx * dx + dy * dy),
+        course,
         car_speed: 100,
         truck_speed: 80,
         surface: 1,
@@ -39,9 +40,16 @@ fn piece(number: i64) -> Source {
     }
 }
 
-/// A receiver beside the road, so far below it on the map.
-fn beside(number: i64, away: i64, height: i64) -> Receiver {
-    let (x, y) = node(number);
+/// A road of the bypass, between two nodes of the bend.
+fn bypass(number: i64) -> Source {
+    let (x1, y1) = bend(ROAD_STEPS * number);
+    let (x2, y2) = bend(ROAD_STEPS * (number + 1));
+    federal(Course::between(x1, y1, x2, y2))
+}
+
+/// A receiver beside the bend after so many steps, so far below it on the map.
+fn beside(steps: i64, away: i64, height: i64) -> Receiver {
+    let (x, y) = bend(steps);
     Receiver {
         x,
         y: y - away,
@@ -66,21 +74,21 @@ fn receivers() -> [Receiver; 12] {
     ]
 }
 
-/// The pieces nearest to the village get open-pored asphalt.
+/// The roads nearest to the village get open-pored asphalt.
 fn repaved(number: i64) -> Source {
     Source {
         surface: 8,
-        ..piece(number)
+        ..bypass(number)
     }
 }
 
-/// A long house front across the road mirrors one piece.
-fn mirrored(number: i64) -> Source {
-    let original = piece(number);
+/// A house front across the road mirrors a short piece of it, which is entered by its middle and
+/// its length.
+fn mirrored(steps: i64) -> Source {
+    let (x, y) = bend(steps);
     Source {
-        y: original.y + 9_000,
         reflection: 1,
-        ..original
+        ..federal(Course::uncut(x, y + 9_000, STEP))
     }
 }
 
@@ -88,9 +96,7 @@ fn mirrored(number: i64) -> Source {
 /// street of 1500 vehicles a day, 50 km/h, mastic asphalt.
 fn street(number: i64) -> Daily {
     let piece = Source {
-        x: 452_000 + 2000 * number,
-        y: 435_000,
-        length: 2000,
+        course: Course::uncut(452_000 + STEP * number, 435_000, STEP),
         car_speed: 50,
         truck_speed: 50,
         surface: 1,
@@ -104,17 +110,17 @@ fn job() -> Vec<Record> {
     for (slot, receiver) in (0..).zip(receivers()) {
         job.push(Record::PlaceReceiver(slot, receiver));
     }
-    for number in 0..PIECES {
-        job.push(Record::PlaceSource(FIRST_SLOT + number, piece(number)));
+    for number in 0..ROADS {
+        job.push(Record::PlaceSource(FIRST_SLOT + number, bypass(number)));
     }
     job.push(Record::PlaceSource(0, mirrored(10)));
     job.extend([Record::Ask(0), Record::Ask(4)]);
-    for number in 15..30 {
+    for number in 3..5 {
         job.push(Record::WithdrawSource(FIRST_SLOT + number));
         job.push(Record::PlaceSource(FIRST_SLOT + number, repaved(number)));
     }
     job.push(Record::WithdrawSource(0));
-    job.push(Record::PlaceReceiver(12, beside(30, 3_000, 400)));
+    job.push(Record::PlaceReceiver(12, beside(30, 0, 400)));
     job.push(Record::WithdrawReceiver(11));
     job.push(Record::PlaceReceiver(11, beside(58, 4_500, 400)));
     for number in 0..5 {

@@ -1,8 +1,10 @@
-// Writes the three jobs of the benchmark into a folder: a town, a town that is edited,
-// and a town that is asked. Every record in them is taken.
+// Writes the four jobs of the benchmark into a folder: a town, a town that is edited, a town that
+// is asked, and a town of long roads that is edited. Every record in them is taken.
 
 use reference::chance::Chance;
-use reference::fields::{HEIGHT, LANES, MINUS, RECEIVERS, SOURCES, SURFACE};
+use reference::course::Course;
+use reference::cuts::{span, within};
+use reference::fields::{HEIGHT, LANES, LENGTH, MINUS, RECEIVERS, SOURCES, SURFACE};
 use reference::record::Record;
 use reference::road::{Receiver, Source, Traffic};
 use reference::town::{surfaces_at, Draft, WIDE};
@@ -12,6 +14,7 @@ use std::process::ExitCode;
 const CORNER: i64 = 5_000_000;
 const EDITS: usize = 20_000;
 const ASKS: usize = 200_000;
+const CUT_EDITS: usize = 2_000;
 
 fn main() -> ExitCode {
     let Some(folder) = std::env::args().nth(1) else {
@@ -30,7 +33,8 @@ fn main() -> ExitCode {
 fn write_all(folder: &Path) -> std::io::Result<()> {
     std::fs::write(folder.join("town.job"), town(&mut Chance::new(1)).bytes)?;
     std::fs::write(folder.join("edit.job"), edited(&mut Chance::new(2)))?;
-    std::fs::write(folder.join("ask.job"), asked(&mut Chance::new(3)))
+    std::fs::write(folder.join("ask.job"), asked(&mut Chance::new(3)))?;
+    std::fs::write(folder.join("cut.job"), cut(&mut Chance::new(4)))
 }
 
 fn spot(chance: &mut Chance) -> (i64, i64) {
@@ -54,9 +58,7 @@ fn road(chance: &mut Chance, x: i64, y: i64) -> Source {
         chance.pick(&[(30, 30), (50, 50), (70, 60), (100, 80), (130, 80)]);
     let walls = chance.pick(&[0, 0, 0, 0, 1, 2]);
     Source {
-        x,
-        y,
-        length: chance.between(300, 2000),
+        course: Course::uncut(x, y, chance.between(300, 2000)),
         several_lanes: chance.within(&LANES),
         car_speed,
         truck_speed,
@@ -70,8 +72,21 @@ fn road(chance: &mut Chance, x: i64, y: i64) -> Source {
     }
 }
 
-/// Receivers and roads in every slot, turn by turn, each tried until it is taken.
-fn town(chance: &mut Chance) -> Draft {
+/// A road of 50 to 1000 m in any direction, both ends of which are in the town.
+fn long_road(chance: &mut Chance) -> Source {
+    let (x, y) = spot(chance);
+    let length = chance.between(LENGTH.most() / 20, LENGTH.most());
+    let (dx, dy) = span(chance, length);
+    let border = (CORNER, CORNER + WIDE);
+    let course = Course::between(x, y, within(x, dx, border), within(y, dy, border));
+    Source {
+        course,
+        ..road(chance, x, y)
+    }
+}
+
+/// Receivers in every slot.
+fn receivers(chance: &mut Chance) -> Draft {
     let mut draft = Draft::default();
     for slot in 0..RECEIVERS as i64 {
         let (x, y) = spot(chance);
@@ -79,12 +94,22 @@ fn town(chance: &mut Chance) -> Draft {
         let receiver = Receiver { x, y, height };
         assert!(draft.put_if_taken(Record::PlaceReceiver(slot, receiver)));
     }
+    draft
+}
+
+/// Places a road that is tried anew until it is taken.
+fn place_some(draft: &mut Draft, slot: i64, mut road: impl FnMut() -> Source) {
+    while !draft.put_if_taken(Record::PlaceSource(slot, road())) {}
+}
+
+/// Receivers and roads in every slot.
+fn town(chance: &mut Chance) -> Draft {
+    let mut draft = receivers(chance);
     for slot in 0..SOURCES as i64 {
-        let mut taken = false;
-        while !taken {
+        place_some(&mut draft, slot, || {
             let (x, y) = spot(chance);
-            taken = draft.put_if_taken(Record::PlaceSource(slot, road(chance, x, y)));
-        }
+            road(chance, x, y)
+        });
     }
     draft
 }
@@ -101,12 +126,10 @@ fn edited(chance: &mut Chance) -> Vec<u8> {
         let slot = chance.index(SOURCES);
         let old = draft.book.sources[slot].expect("every slot is in use");
         assert!(draft.put_if_taken(Record::WithdrawSource(slot as i64)));
-        let mut taken = false;
-        while !taken {
-            let mut changed = road(chance, old.x, old.y);
-            changed.length = old.length;
-            taken = draft.put_if_taken(Record::PlaceSource(slot as i64, changed));
-        }
+        let middle = old.course.middle();
+        place_some(&mut draft, slot as i64, || {
+            road(chance, middle.x, middle.y).uncut(old.course.length())
+        });
         ask_any(&mut draft, chance);
     }
     draft.bytes
@@ -116,6 +139,22 @@ fn edited(chance: &mut Chance) -> Vec<u8> {
 fn asked(chance: &mut Chance) -> Vec<u8> {
     let mut draft = town(chance);
     for _ in 0..ASKS {
+        ask_any(&mut draft, chance);
+    }
+    draft.bytes
+}
+
+/// Receivers and long roads in every slot, then over and over a road withdrawn, another one placed
+/// there, and a question.
+fn cut(chance: &mut Chance) -> Vec<u8> {
+    let mut draft = receivers(chance);
+    for slot in 0..SOURCES as i64 {
+        place_some(&mut draft, slot, || long_road(chance));
+    }
+    for _ in 0..CUT_EDITS {
+        let slot = chance.index(SOURCES) as i64;
+        assert!(draft.put_if_taken(Record::WithdrawSource(slot)));
+        place_some(&mut draft, slot, || long_road(chance));
         ask_any(&mut draft, chance);
     }
     draft.bytes
