@@ -3,7 +3,9 @@
 use crate::Counts;
 use crate::Request;
 use course::Course;
+use course::Piece;
 use road::Source;
+use road::Traffic;
 use road::Verdict;
 use road::fields;
 use road::judge;
@@ -321,9 +323,26 @@ pub fn number(call: Request, source: Source) -> usize
 pub fn blank() -> Source
     ensures { λ r. ⌜ r ≡ kinds.blank ⌝ }
 {
-    let none = [0u64; fields::SOURCE_ROWS];
-    let course = Course::Uncut(fields::piece_of(&none, 0));
-    fields::source_of(course, &none, 0)
+    let none = Traffic { m: 0, p: 0 };
+    let traffic = [none, none, none];
+    let course = Course::Uncut(Piece {
+        x: 0,
+        y: 0,
+        length: 0,
+    });
+    Source {
+        course,
+        lanes: 0,
+        car: 0,
+        truck: 0,
+        surface: 0,
+        gradient: 0,
+        reflection: 0,
+        walls: 0,
+        height: 0,
+        spacing: 0,
+        traffic,
+    }
 }
 
 // The source of kind 3, by its middle and its length.

@@ -34,7 +34,7 @@ pub struct Entry {
 }
 
 // The bytes of the longest record.
-pub const LONGEST_RECORD: usize = 30;
+pub const LONGEST_RECORD: usize = 34;
 
 // The room that every line has.
 const LINE_ROOM: usize = 64;

@@ -154,20 +154,15 @@ fn hear(steps: &[u32; 1000], voices: [Voice; 3], length: Term, q0: u64, q: u64, 
     })
 }
 
-// A piece that is not cut, by its length's term and the squared distances of a point: the three shares, or the first bar.
-fn alone(
-    steps: &[u32; 1000],
-    voices: [Voice; 3],
-    p: Piece,
-    length: Term,
-    q0: u64,
-    q: u64,
-    r: Receiver,
-) -> Pair
-    requires { ⌜ (now steps ≡ table) × Moderate voices × (1 ≤ p .length) × (p .length ≤ longest) × (receiverVerdict r ≡ Allowed) ⌝ }
-    requires { ⌜ (length ≡ lengthTerm (p .length)) × (q0 ≡ planSquare p r) × (q ≡ spaceSquare p r) ⌝ }
-    ensures { λ a. ⌜ a ≡ pairOver (shareBy voices r) r (p ∷ []) ⌝ }
+// A piece that is not cut, all of what is sent: the three shares, or the first bar.
+fn alone(steps: &[u32; 1000], sent: Sent, r: Receiver) -> Pair
+    requires { ⌜ (now steps ≡ table) × Moderate (sent .voices) × (receiverVerdict r ≡ Allowed) × (sent .length ≡ lengthTerm (sent .whole .length)) ⌝ }
+    requires { ⌜ (sent .whole .x ≤ coordinate) × (sent .whole .y ≤ coordinate) × (1 ≤ sent .whole .length) × (sent .whole .length ≤ longest) ⌝ }
+    ensures { λ a. ⌜ a ≡ pairOver (shareBy (sent .voices) r) r (sent .whole ∷ []) ⌝ }
 {
+    let p = sent.whole;
+    let q0 = plan(p, r);
+    let q = space(q0, r.height);
     if q < NEAREST {
         return Pair::Barred(Bar::Near);
     }
@@ -180,7 +175,8 @@ fn alone(
         return Pair::Barred(Bar::Long);
     }
     let h = (r.height + SOURCE_HEIGHT) as u64;
-    hear(steps, voices, length, q0, q, h)
+    let voices = sent.voices;
+    hear(steps, voices, sent.length, q0, q, h)
 }
 
 // The shares of two parts of a road added up, or too loud.
@@ -237,39 +233,43 @@ fn join(a: Pair, b: Pair) -> Pair
     }
 }
 
-// A road between two ends, by its length: as long as it is too long for the point it is halved, and each half is treated the same way.
-fn along(steps: &[u32; 1000], voices: [Voice; 3], e: Ends, length: u32, r: Receiver) -> Pair
+// A road between two ends, all of which is the piece: as long as it is too long for the point it is halved, and each half is treated the
+// same way.
+fn along(steps: &[u32; 1000], voices: [Voice; 3], whole: Piece, e: Ends, r: Receiver) -> Pair
     requires { ⌜ (now steps ≡ table) × Moderate voices × (receiverVerdict r ≡ Allowed) ⌝ }
-    requires { ⌜ Mapped e × (length ≡ lengthOf e) × (1 ≤ length) × (length ≤ longest) ⌝ }
+    requires { ⌜ Mapped e × (whole ≡ onePiece e) × (1 ≤ lengthOf e) × (lengthOf e ≤ longest) ⌝ }
     ensures { λ a. ⌜ a ≡ pairOver (shareBy voices r) r (piecesBetween (λ p. spaceSquare p r) e) ⌝ }
 {
-    let p = course::whole(e, length);
-    let q0 = plan(p, r);
-    let q = space(q0, r.height);
-    if course::too_long(length, q) {
+    let q = space(plan(whole, r), r.height);
+    if course::too_long(whole.length, q) {
         let first = course::first_half(e);
         let second = course::second_half(e);
-        let a = along(steps, voices, first, course::length(first), r);
-        let b = along(steps, voices, second, course::length(second), r);
+        let a = along(
+            steps,
+            voices,
+            course::whole(first, course::length(first)),
+            first,
+            r,
+        );
+        let b = along(
+            steps,
+            voices,
+            course::whole(second, course::length(second)),
+            second,
+            r,
+        );
         return join(a, b);
     }
-    let term = road::emission::length(steps, length);
-    alone(steps, voices, p, term, q0, q, r)
-}
-
-// A road between two ends, which is cut if all of it is too long for the point.
-fn between(steps: &[u32; 1000], sent: Sent, e: Ends, q0: u64, q: u64, r: Receiver) -> Pair
-    requires { ⌜ (now steps ≡ table) × (receiverVerdict r ≡ Allowed) × Moderate (sent .voices) ⌝ }
-    requires { ⌜ Mapped e × (1 ≤ lengthOf e) × (lengthOf e ≤ longest) × (sent .whole ≡ onePiece e) × (sent .length ≡ lengthTerm (lengthOf e)) ⌝ }
-    requires { ⌜ (q0 ≡ planSquare (sent .whole) r) × (q ≡ spaceSquare (sent .whole) r) ⌝ }
-    ensures { λ a. ⌜ a ≡ pairOver (shareBy (sent .voices) r) r (piecesBetween (λ p. spaceSquare p r) e) ⌝ }
-{
-    let voices = sent.voices;
-    let whole = sent.whole;
-    if course::too_long(whole.length, q) {
-        return along(steps, voices, e, whole.length, r);
-    }
-    alone(steps, voices, whole, sent.length, q0, q, r)
+    let length = road::emission::length(steps, whole.length);
+    alone(
+        steps,
+        Sent {
+            voices,
+            whole,
+            length,
+        },
+        r,
+    )
 }
 
 // A source and a receiver: the three shares, or the first bar.
@@ -277,13 +277,13 @@ pub fn pair(steps: &[u32; 1000], s: Source, sent: Sent, r: Receiver) -> Pair
     requires { ⌜ (now steps ≡ table) × (sourceVerdict s ≡ Allowed) × (sent ≡ sentOf s) × (receiverVerdict r ≡ Allowed) ⌝ }
     ensures { λ p. ⌜ p ≡ pairOf s r ⌝ }
 {
-    let voices = sent.voices;
-    let whole = sent.whole;
-    let q0 = plan(whole, r);
-    let q = space(q0, r.height);
     let course = s.course;
     match course {
-        Course::Uncut(_) => alone(steps, voices, whole, sent.length, q0, q, r),
-        Course::Between(e) => between(steps, sent, e, q0, q, r),
+        Course::Uncut(_) => alone(steps, sent, r),
+        Course::Between(e) => {
+            let voices = sent.voices;
+            let whole = sent.whole;
+            along(steps, voices, whole, e, r)
+        }
     }
 }
