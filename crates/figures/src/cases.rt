@@ -2,6 +2,9 @@
 // The point is at (100000, 100000); the road lies east of it.
 use crate::print;
 use answer::Refusal;
+use course::Course;
+use course::Ends;
+use course::Piece;
 use road::Bar;
 use road::Pair;
 use road::Receiver;
@@ -37,16 +40,23 @@ pub fn point() -> Receiver
     }
 }
 
-// The road, with its middle at x and of some length.
-pub fn street(x: u32, length: u32) -> Source
-    ensures { λ s. ⌜ (s .x ≡ x) × (s .y ≡ 100000) ⌝ }
+// A piece of it, with its middle at x and of some length.
+fn piece(x: u32, length: u32) -> Piece
+    ensures { λ p. ⌜ (p .x ≡ x) × (p .y ≡ 100000) ⌝ }
 {
-    let busy = Traffic { m: 1000000, p: 0 };
-    let late = Traffic { m: 100000, p: 0 };
-    Source {
+    Piece {
         x: x,
         y: 100000,
         length: length,
+    }
+}
+
+// The road, wherever it runs.
+fn road_on(course: Course) -> Source {
+    let busy = Traffic { m: 1000000, p: 0 };
+    let late = Traffic { m: 100000, p: 0 };
+    Source {
+        course: course,
         lanes: 0,
         car: 100,
         truck: 80,
@@ -60,12 +70,27 @@ pub fn street(x: u32, length: u32) -> Source
     }
 }
 
+// With its middle at x and of some length.
+pub fn street(x: u32, length: u32) -> Source {
+    road_on(Course::Uncut(piece(x, length)))
+}
+
+// Between two ends at x.
+fn between(x: u32, south: u32, north: u32) -> Source {
+    road_on(Course::Between(Ends {
+        x1: x,
+        y1: south,
+        x2: x,
+        y2: north,
+    }))
+}
+
 // Squared distance, distance, and what distance and ground take off. H is 450, twice the mean height of the ray.
 fn way(steps: &[u32; 1000], names: &[u8], x: u32)
     requires { ⌜ (now steps ≡ table) × (100000 ≤ x) × (x ≤ 110000) ⌝ }
 {
     let r = point();
-    let q = reach::space(reach::plan(street(x, 1000), r), r.height);
+    let q = reach::space(reach::plan(piece(x, 1000), r), r.height);
     let far = root::root(q);
     let ground = reach::ground(450, far);
     let way = reach::way(steps, q, far, 450);
@@ -130,10 +155,10 @@ fn speed(steps: &[u32; 1000], names: &[u8])
 }
 
 // The shares of the road, as energies and as levels.
-fn shares(steps: &[u32; 1000], names: &[u8], x: u32)
+fn shares(steps: &[u32; 1000], names: &[u8], s: Source)
     requires { ⌜ now steps ≡ table ⌝ }
 {
-    match meet(steps, street(x, 1000)) {
+    match meet(steps, s) {
         Outcome::Refused(why) => print::refusal(names, 0, why),
         Outcome::Told(h) => {
             print::number(names, 0, h.day);
@@ -191,7 +216,7 @@ fn at_25(steps: &[u32; 1000])
     shares(
         steps,
         b"25 m: energy by day \n25 m: energy in the evening \n25 m: energy at night \n25 m: share by day \n25 m: share in the evening \n25 m: share at night \n",
-        102500,
+        street(102500, 1000),
     );
     twice(steps, b"25 m, twice: night level \n");
 }
@@ -208,7 +233,18 @@ fn at_100(steps: &[u32; 1000])
     shares(
         steps,
         b"x 110000: energy by day \nx 110000: energy in the evening \nx 110000: energy at night \nx 110000: share by day \nx 110000: share in the evening \nx 110000: share at night \n",
-        110000,
+        street(110000, 1000),
+    );
+}
+
+// The road at 25 m between two ends 12.63 m apart: it is cut into two pieces, and their energies add up.
+fn cut(steps: &[u32; 1000])
+    requires { ⌜ now steps ≡ table ⌝ }
+{
+    shares(
+        steps,
+        b"25 m, cut: energy by day \n25 m, cut: energy in the evening \n25 m, cut: energy at night \n25 m, cut: share by day \n25 m, cut: share in the evening \n25 m, cut: share at night \n",
+        between(102500, 99369, 100632),
     );
 }
 
@@ -218,6 +254,7 @@ pub fn all() {
     speed(&steps, b"v 100, u 80, p 0: Dv \nv 100, u 80, p 200: Dv \n");
     at_25(&steps);
     at_100(&steps);
+    cut(&steps);
     limits(
         &steps,
         b"25 m, l 1262: \n25 m, l 1263: \ndx 357: \ndx 358, l 100: \n",

@@ -1,8 +1,14 @@
--- A call as 44 bytes, most significant first: the kind, the slot (two bytes), and the fields of a source or a receiver, each as wide as its type.
+-- A call as 48 bytes, most significant first: the kind, the slot (two bytes), and the fields of a source or a receiver, each as wide as its type.
 -- The kinds are those of METHOD 3; one that is not listed is an ask.
 use Prim.Native.Nat.{ℕ, _+_, _*_}
 use mathlib.Core.List.{List, [], _∷_}
+use mathlib.Core.Bool.{cond}
+use lib.Dec.{eqb}
 use lib.ListN.{getD}
+use Rattle.course.specs.declared.Piece.{Piece}
+use Rattle.course.specs.declared.Ends.{Ends}
+use Rattle.course.specs.declared.Course.{Course}
+use Rattle.course.specs.declared.Course.the-variants.{Uncut, Between}
 use Rattle.road.specs.declared.Receiver.{Receiver}
 use Rattle.road.specs.declared.Traffic.{Traffic}
 use Rattle.road.specs.declared.Source.{Source}
@@ -23,12 +29,20 @@ four s i = two s i * 65536 + two s (i + 2)
 abbrev pub trafficAt : List ℕ → ℕ → Traffic
 trafficAt s i = record { m = four s i; p = two s (i + 4) }
 
+-- of two ends the second stands where a length would, and its y in the last four bytes
+abbrev pub rawPiece : List ℕ → Piece
+rawPiece s = record { x = four s 3; y = four s 7; length = four s 11 }
+
+abbrev pub rawEnds : List ℕ → Ends
+rawEnds s = record { x1 = four s 3; y1 = four s 7; x2 = four s 11; y2 = four s 44 }
+
+abbrev pub rawCourse : List ℕ → Course
+rawCourse s = cond (eqb (one s 0) 7) (Between (rawEnds s)) (Uncut (rawPiece s))
+
 abbrev pub rawSource : List ℕ → Source
 rawSource s =
     record {
-      x = four s 3;
-      y = four s 7;
-      length = four s 11;
+      course = rawCourse s;
       lanes = one s 15;
       car = one s 16;
       truck = one s 17;
@@ -48,9 +62,12 @@ rawReceiver s = record { x = four s 3; y = four s 7; height = two s 11 }
 abbrev pub rawDaily : List ℕ → Daily
 rawDaily s = record { class = one s 26; dtv = four s 27 }
 
-unfoldable pub callBy : ℕ → ℕ → Receiver → Daily → Request
-callBy kind slot r d =
-    getD (Ask slot ∷ PlaceReceiver slot r ∷ WithdrawReceiver slot ∷ PlaceSource slot ByPeriod ∷ WithdrawSource slot ∷ Ask slot ∷ PlaceSource slot (ByDay d) ∷ []) kind (Ask slot)
+unfoldable pub callBy : ℕ → ℕ → Receiver → Piece → Daily → Request
+callBy kind slot r p d =
+    getD
+    (Ask slot ∷ PlaceReceiver slot r ∷ WithdrawReceiver slot ∷ PlaceSource slot ByPeriod ∷ WithdrawSource slot ∷ Ask slot
+    ∷ PlaceSource slot (ByDay p d) ∷ PlaceSource slot ByPeriod ∷ [])
+    kind (Ask slot)
 
 abbrev pub callAt : List ℕ → Request
-callAt s = callBy (one s 0) (two s 1) (rawReceiver s) (rawDaily s)
+callAt s = callBy (one s 0) (two s 1) (rawReceiver s) (rawPiece s) (rawDaily s)

@@ -1,5 +1,9 @@
-// A call as 44 bytes: the kind, the slot (two bytes), and the fields, each as wide as its type. A daily figure stands where traffic would.
+// A call as 48 bytes: the kind, the slot (two bytes), and the fields, each as wide as its type. A daily figure stands where traffic would,
+// the second end of a road where its length would, and the y of that in the last four bytes.
 // So calls can be told that no record holds. A kind that is not listed is an ask.
+use course::Course;
+use course::Ends;
+use course::Piece;
 use daily::Daily;
 use record::Counts;
 use record::Request;
@@ -22,22 +26,22 @@ fn wide(high: u16, low: u16) -> u32
     high as u32 * 65536 + low as u32
 }
 
-fn two(raw: &[u8; 44], at: usize) -> u16
-    requires { ⌜ at + 2 ≤ 44 ⌝ }
+fn two(raw: &[u8; 48], at: usize) -> u16
+    requires { ⌜ at + 2 ≤ 48 ⌝ }
     ensures { λ r. ⌜ r ≡ spec.two (now (raw .entry)) at ⌝ }
 {
     joined(raw[at], raw[at + 1])
 }
 
-fn four(raw: &[u8; 44], at: usize) -> u32
-    requires { ⌜ at + 4 ≤ 44 ⌝ }
+fn four(raw: &[u8; 48], at: usize) -> u32
+    requires { ⌜ at + 4 ≤ 48 ⌝ }
     ensures { λ r. ⌜ r ≡ spec.four (now (raw .entry)) at ⌝ }
 {
     wide(two(raw, at), two(raw, at + 2))
 }
 
-fn traffic(raw: &[u8; 44], at: usize) -> Traffic
-    requires { ⌜ at + 6 ≤ 44 ⌝ }
+fn traffic(raw: &[u8; 48], at: usize) -> Traffic
+    requires { ⌜ at + 6 ≤ 48 ⌝ }
     ensures { λ r. ⌜ r ≡ spec.trafficAt (now (raw .entry)) at ⌝ }
 {
     let m = four(raw, at);
@@ -45,18 +49,45 @@ fn traffic(raw: &[u8; 44], at: usize) -> Traffic
     Traffic { m, p }
 }
 
-fn periods(raw: &[u8; 44]) -> [Traffic; 3]
+fn periods(raw: &[u8; 48]) -> [Traffic; 3]
     ensures { λ r. ⌜ r ≡ spec.rawSource (now (raw .entry)) .traffic ⌝ }
 {
     [traffic(raw, 26), traffic(raw, 32), traffic(raw, 38)]
 }
 
-pub fn source(raw: &[u8; 44]) -> Source
-    ensures { λ r. ⌜ r ≡ spec.rawSource (now (raw .entry)) ⌝ }
+fn piece(raw: &[u8; 48]) -> Piece
+    ensures { λ r. ⌜ r ≡ spec.rawPiece (now (raw .entry)) ⌝ }
 {
     let x = four(raw, 3);
     let y = four(raw, 7);
     let length = four(raw, 11);
+    Piece { x, y, length }
+}
+
+fn ends(raw: &[u8; 48]) -> Ends
+    ensures { λ r. ⌜ r ≡ spec.rawEnds (now (raw .entry)) ⌝ }
+{
+    let x1 = four(raw, 3);
+    let y1 = four(raw, 7);
+    let x2 = four(raw, 11);
+    let y2 = four(raw, 44);
+    Ends { x1, y1, x2, y2 }
+}
+
+fn course(raw: &[u8; 48]) -> Course
+    ensures { λ r. ⌜ r ≡ spec.rawCourse (now (raw .entry)) ⌝ }
+{
+    let kind = raw[0];
+    if kind == 7 {
+        return Course::Between(ends(raw));
+    }
+    Course::Uncut(piece(raw))
+}
+
+pub fn source(raw: &[u8; 48]) -> Source
+    ensures { λ r. ⌜ r ≡ spec.rawSource (now (raw .entry)) ⌝ }
+{
+    let course = course(raw);
     let lanes = raw[15];
     let car = raw[16];
     let truck = raw[17];
@@ -68,9 +99,7 @@ pub fn source(raw: &[u8; 44]) -> Source
     let spacing = two(raw, 24);
     let traffic = periods(raw);
     Source {
-        x,
-        y,
-        length,
+        course,
         lanes,
         car,
         truck,
@@ -84,7 +113,7 @@ pub fn source(raw: &[u8; 44]) -> Source
     }
 }
 
-fn receiver(raw: &[u8; 44]) -> Receiver
+fn receiver(raw: &[u8; 48]) -> Receiver
     ensures { λ r. ⌜ r ≡ spec.rawReceiver (now (raw .entry)) ⌝ }
 {
     let x = four(raw, 3);
@@ -93,7 +122,7 @@ fn receiver(raw: &[u8; 44]) -> Receiver
     Receiver { x, y, height }
 }
 
-fn daily(raw: &[u8; 44]) -> Daily
+fn daily(raw: &[u8; 48]) -> Daily
     ensures { λ r. ⌜ r ≡ spec.rawDaily (now (raw .entry)) ⌝ }
 {
     let class = raw[26];
@@ -101,7 +130,7 @@ fn daily(raw: &[u8; 44]) -> Daily
     Daily { class, dtv }
 }
 
-pub fn of(raw: &[u8; 44]) -> Request
+pub fn of(raw: &[u8; 48]) -> Request
     ensures { λ r. ⌜ r ≡ spec.callAt (now (raw .entry)) ⌝ }
 {
     let slot = two(raw, 1);
@@ -111,7 +140,8 @@ pub fn of(raw: &[u8; 44]) -> Request
         2 => Request::WithdrawReceiver(slot),
         3 => Request::PlaceSource(slot, Counts::ByPeriod),
         4 => Request::WithdrawSource(slot),
-        6 => Request::PlaceSource(slot, Counts::ByDay(daily(raw))),
+        6 => Request::PlaceSource(slot, Counts::ByDay(piece(raw), daily(raw))),
+        7 => Request::PlaceSource(slot, Counts::ByPeriod),
         _ => Request::Ask(slot),
     }
 }

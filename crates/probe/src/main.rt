@@ -78,16 +78,16 @@ fn sized_store(n: usize, room: &mut [u8]) -> bool {
 }
 
 // Writes the record of a call into the room, and then the head of the answer and the room. The extent is that of the part read back.
-fn answer_call(raw: &[u8; 44], room: &mut [u8]) -> bool {
+fn answer_call(raw: &[u8; 48], room: &mut [u8]) -> bool {
     let written = record::write(call::of(raw), call::source(raw), room);
     let extent = record::part(room).len();
     let head = head::of_writing(written, extent);
     io::write_all(STDOUT_FILENO, &head) && io::write_all(STDOUT_FILENO, room)
 }
 
-// Reads a call of 44 bytes, and answers.
+// Reads a call of 48 bytes, and answers.
 fn with_room(room: &mut [u8]) -> bool {
-    let mut raw = [0u8; 44];
+    let mut raw = [0u8; 48];
     filled(&mut raw) && answer_call(&raw, room)
 }
 

@@ -1,5 +1,5 @@
 // Byte vectors of job records, read and written again, and held to the file stdout.
-// A line is the length of the part, and then the output of 32 bytes FF after writing, or the number and the place of a refusal.
+// A line is the length of the part, and then the output of 36 bytes FF after writing, or the number and the place of a refusal.
 use answer::Refusal;
 use libc::STDOUT_FILENO;
 use record::Request;
@@ -53,7 +53,7 @@ fn again(job: &[u8]) {
     let source = reading.source;
     match told {
         Told::Request(call) => {
-            let mut out = [255u8; 32];
+            let mut out = [255u8; 36];
             write(call, source, &mut out);
         }
         Told::Refused(why) => {
@@ -76,6 +76,10 @@ fn accepted() {
     );
     // withdraw source 511, and a byte of the next record
     again(b"\x4f\xf8\x51");
+    // the same road by its ends, in slot 2
+    again(
+        b"\x70\x10\x0c\x83\x20\x0c\x25\x60\x0c\x83\x20\x0c\x44\xa1\x91\x40\x40\x00\x00\x00\x00\x07\xa1\x20\x00\x01\xe8\x48\x00\x00\x0c\x35\x00\x00",
+    );
     // the same road as a municipal street with 1500 vehicles a day, in slot 1 of METHOD 3
     again(b"\x60\x08\x0c\x83\x20\x0c\x35\x00\x0f\xa0\xc8\xa0\x20\x00\x00\x00\x00\x30\x17\x70");
 }
@@ -90,7 +94,17 @@ fn refused() {
     again(b"\xf0");
     // refusal 4
     again(b"\x51\x41");
-    // refusal 5: height 379; minus zero; a height of walls that are not there
+    again(
+        b"\x70\x10\x0c\x83\x20\x0c\x25\x60\x0c\x83\x20\x0c\x44\xa1\x91\x40\x40\x00\x00\x00\x00\x07\xa1\x20\x00\x01\xe8\x48\x00\x00\x0c\x35\x00\x01",
+    );
+    // refusal 5: both ends the same point; ends 1 km and 1 cm apart
+    again(
+        b"\x70\x10\x0c\x83\x20\x0c\x25\x60\x0c\x83\x20\x0c\x25\x61\x91\x40\x40\x00\x00\x00\x00\x07\xa1\x20\x00\x01\xe8\x48\x00\x00\x0c\x35\x00\x00",
+    );
+    again(
+        b"\x70\x10\x00\x00\x00\x00\x00\x00\x0c\x35\x08\x00\x00\x01\x91\x40\x40\x00\x00\x00\x00\x07\xa1\x20\x00\x01\xe8\x48\x00\x00\x0c\x35\x00\x00",
+    );
+    // height 379; minus zero; a height of walls that are not there
     again(b"\x11\x40\x61\xa8\x00\x61\xa8\x2f\x60");
     again(
         b"\x30\x00\x0c\x83\x20\x0c\x35\x00\x0f\xa0\xc8\xa0\x30\x00\x00\x00\x00\x03\xd0\x90\x00\x00\xf4\x24\x00\x00\x06\x1a\x80\x00",

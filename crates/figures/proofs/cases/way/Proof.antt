@@ -3,10 +3,11 @@
 use mathlib.Core.Path.{_≡_, ap}
 use Prim.Native.Nat.{ℕ, _+_, _-_, _*_, _≤_}
 use native.Mathlib.Omega.{arith}
-use Rattle.road.specs.declared.Source.{Source}
+use Rattle.course.specs.declared.Piece.{Piece}
+use Rattle.course.specs.Course.{apart, square}
 use Rattle.road.specs.declared.Receiver.{Receiver}
 use Rattle.road.specs.declared.Term.{Term}
-use Rattle.road.specs.Reach.{apart, square, planSquare, distanceTerm, groundTerm, farthest}
+use Rattle.road.specs.Reach.{planSquare, distanceTerm, groundTerm, farthest}
 use Rattle.road.proofs.Bounds.{times}
 use Rattle.road.proofs.Pairs.{Reached, reached, ground-most}
 use borrow.Author.Needs.{needs}
@@ -16,31 +17,31 @@ use Rattle.figures.proofs.cases.way.Tie as tie
 point-requires : tie.Need-point-requires
 point-requires c κs = search needs
 
-street-requires : tie.Need-street-requires
-street-requires c κs = search needs
+piece-requires : tie.Need-piece-requires
+piece-requires c κs = search needs
 
 plan-requires : tie.Need-plan-requires
 plan-requires c κs =
-    let s = c .street .ensures in
+    let s = c .piece .ensures in
     let r = c .before .point .ensures in
     let start = c .before .before .before in
     (omega (arith, s .0, start .pre .2), omega (arith, s .1), omega (arith, ap (λ (p : Receiver). p .x) r), omega (arith, ap (λ (p : Receiver). p .y) r))
 
 -- the squared distance in the plan, and in space
-near : (s : Source) (r : Receiver) → apart (s .x) (r .x) ≤ 10000 → apart (s .y) (r .y) ≤ 0 → planSquare s r ≤ 100000000
+near : (s : Piece) (r : Receiver) → apart (s .x) (r .x) ≤ 10000 → apart (s .y) (r .y) ≤ 0 → planSquare s r ≤ 100000000
 unfolding planSquare
 near s r a b =
     omega (arith, times (apart (s .x) (r .x)) (apart (s .x) (r .x)) 10000 10000 a a, times (apart (s .y) (r .y)) (apart (s .y) (r .y)) 0 0 b b)
 
 passing : (c : tie.After-plan) → c .plan .result ≤ 100000000
 passing c =
-    let s = c .before .street .ensures in
+    let s = c .before .piece .ensures in
     let r = c .before .before .point .ensures in
     let p = c .before .before .before .before .pre in
     omega (
       arith,
       c .plan .ensures,
-      near (c .before .street .result) (c .before .before .point .result)
+      near (c .before .piece .result) (c .before .before .point .result)
           (omega (arith, s .0, p .1, p .2, ap (λ (p : Receiver). p .x) r))
           (omega (arith, s .1, ap (λ (p : Receiver). p .y) r)),
     )
@@ -103,7 +104,7 @@ way-spec =
     tie.close
     (tie.spec
     point-requires
-    street-requires
+    piece-requires
     plan-requires
     space-requires
     root-requires

@@ -6,14 +6,8 @@ use borrow.Author.Needs.{needs}
 use Rattle.probe.proofs.call.source.Statement.{statement}
 use Rattle.probe.proofs.call.source.Tie as tie
 
-four-requires : tie.Need-four-requires
-four-requires c κs = search needs
-
-four-requires-2 : tie.Need-four-requires-2
-four-requires-2 c κs = search needs
-
-four-requires-3 : tie.Need-four-requires-3
-four-requires-3 c κs = search needs
+course-requires : tie.Need-course-requires
+course-requires c κs = search needs
 
 element-copy-out-lanes : tie.Need-element-copy-out-lanes
 element-copy-out-lanes c = search needs
@@ -47,12 +41,11 @@ periods-requires c κs = search needs
 
 returns : tie.Need-returns
 returns c =
-    let s = now (c .before .before .before .before .before .before .before .before .before .before .before .before .before .args .raw) in
+    let k = c .before .before .before .before .before .before .before .before .before .before in
+    let s = now (k .before .args .raw) in
     λ i.
     record {
-      x = c .before .before .before .before .before .before .before .before .before .before .before .before .four .ensures i;
-      y = c .before .before .before .before .before .before .before .before .before .before .before .four2 .ensures i;
-      length = c .before .before .before .before .before .before .before .before .before .before .four3 .ensures i;
+      course = k .course .ensures i;
       lanes = one s 15;
       car = one s 16;
       truck = one s 17;
@@ -69,9 +62,7 @@ pub source-spec : {M : Type 1} → statement M
 source-spec =
     tie.close
     (tie.spec
-    four-requires
-    four-requires-2
-    four-requires-3
+    course-requires
     element-copy-out-lanes
     element-copy-out-car
     element-copy-out-truck
