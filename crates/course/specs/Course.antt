@@ -1,4 +1,4 @@
--- Where a road runs (METHOD 5): an uncut piece by its middle and its length, or between two ends; and the pieces that it is for a point.
+-- Where a road runs (METHOD 7): an uncut piece by its middle and its length, or between two ends; and the pieces that it is for a point.
 -- Lengths are in cm. `rootOf` is the root, down.
 use Prim.Native.Nat.{ℕ, zero, suc, _+_, _-_, _*_, _/_, _^_, _≤_, _<_}
 use mathlib.Core.Path.{_≡_}

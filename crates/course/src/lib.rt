@@ -1,4 +1,4 @@
-// Where a road runs (METHOD 5): an uncut piece by its middle and its length, or between two ends, which is cut into pieces for a point.
+// Where a road runs (METHOD 7): an uncut piece by its middle and its length, or between two ends, which is cut into pieces for a point.
 // What the cutting is made of is here; the recursion over the halves adds up shares, and is in the crate reach.
 ghost use mathlib.Core.Path.{_≡_};
 ghost use Prim.Native.Nat.{_^_, _<_, _≤_};

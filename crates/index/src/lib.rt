@@ -3,8 +3,8 @@
 ghost use mathlib.Core.Path.{_≡_};
 ghost use Prim.Native.Nat.{_+_, _*_, _/_, _<_, _≤_};
 ghost use Rattle.level.specs.Table.{table};
-ghost use Rattle.level.specs.Level.{top};
-ghost use Rattle.index.specs.Index.{levelIn, tenthsOf, liftedOf, ldenOf, lnightOf};
+ghost use Rattle.level.specs.Level.{top, loudnessOf};
+ghost use Rattle.index.specs.Index.{levelIn, tenthsOf, lift, liftedOf, ldenOf, lnightOf};
 use level::Loudness;
 
 // An index in tenths of a dB, or none.
@@ -24,33 +24,42 @@ fn in_tenths(heard: Loudness) -> Index
     }
 }
 
-// The energy of a sum's level with an addition to it; a quiet period brings nothing.
-fn lifted(steps: &[u32; 1000], sum: u64, addition: u32) -> u64
-    requires { ⌜ (now steps ≡ table) × (sum ≤ top) × (addition ≤ 1000) ⌝ }
-    ensures { λ r. ⌜ r ≡ liftedOf addition sum ⌝ }
+// The energy of a level with an addition to it; a quiet period brings nothing.
+fn raised(steps: &[u32; 1000], heard: Loudness, addition: u32) -> u64
+    requires { ⌜ (now steps ≡ table) × (levelIn heard ≤ 11709) × (addition ≤ 1000) ⌝ }
+    ensures { λ r. ⌜ r ≡ lift addition heard ⌝ }
 {
-    match level::level(steps, sum) {
+    match heard {
         Loudness::Quiet => 0,
         Loudness::Level(hundredths) => level::energy(steps, hundredths + addition),
     }
 }
 
-// L_Night: the level of the night's sum.
-pub fn lnight(steps: &[u32; 1000], night: u64) -> Index
-    requires { ⌜ now steps ≡ table ⌝ }
+// Of a sum's level.
+fn lifted(steps: &[u32; 1000], sum: u64, addition: u32) -> u64
+    requires { ⌜ (now steps ≡ table) × (sum ≤ top) × (addition ≤ 1000) ⌝ }
+    ensures { λ r. ⌜ r ≡ liftedOf addition sum ⌝ }
+{
+    raised(steps, level::level(steps, sum), addition)
+}
+
+// L_Night: the level of the night's sum, which is told.
+pub fn lnight(night: u64, late: Loudness) -> Index
+    requires { ⌜ late ≡ loudnessOf night ⌝ }
     ensures { λ r. ⌜ r ≡ lnightOf night ⌝ }
 {
-    in_tenths(level::level(steps, night))
+    in_tenths(late)
 }
 
 // L_DEN: twelve hours of day, four of evening with 5 dB more, eight of night with 10 dB more, as 3 to 1 to 2.
-pub fn lden(steps: &[u32; 1000], day: u64, evening: u64, night: u64) -> Index
-    requires { ⌜ (now steps ≡ table) × (day ≤ top) × (evening ≤ top) × (night ≤ top) ⌝ }
+// The level of the night's sum is told, since L_Night wants it too.
+pub fn lden(steps: &[u32; 1000], day: u64, evening: u64, night: u64, late: Loudness) -> Index
+    requires { ⌜ (now steps ≡ table) × (day ≤ top) × (evening ≤ top) × (night ≤ top) × (late ≡ loudnessOf night) ⌝ }
     ensures { λ r. ⌜ r ≡ ldenOf day evening night ⌝ }
 {
     let a = lifted(steps, day, 0);
     let b = lifted(steps, evening, 500);
-    let c = lifted(steps, night, 1000);
+    let c = raised(steps, late, 1000);
     let mean = (3 * a + b + 2 * c) / 6;
     in_tenths(level::level(steps, mean))
 }

@@ -1,4 +1,4 @@
--- What of a road reaches a point (VBUS sections 3.3, 3.4, 3.6 to 3.8 and 3.10, METHOD 5, 7 and 9): the share level of a piece, its terms,
+-- What of a road reaches a point (VBUS sections 3.3, 3.4, 3.6 to 3.8 and 3.10, METHOD 7 and 9): the share level of a piece, its terms,
 -- the road's pieces, and the pair's answer. Lengths are in cm. `rootOf` is the root, down.
 use Prim.Native.Nat.{ℕ, _+_, _-_, _*_, _/_, _%_, _^_, min, max}
 use mathlib.Core.Path.{_≡_}
@@ -107,7 +107,7 @@ energyShare t = cond (ltb (t .up) (t .down)) 0 (energyOf (t .up - t .down))
 unfoldable pub shareOf : Source → Piece → Receiver → ℕ → ℕ
 shareOf s p r i = cond (eqb (period s i .m) 0) 0 (energyShare (shareLevel s p r i))
 
--- ---- the pieces of a road for a point (METHOD 5), and what they bring: their shares in each period, added up
+-- ---- the pieces of a road for a point (METHOD 7), and what they bring: their shares in each period, added up
 
 abbrev pub piecesFor : Receiver → Course → List Piece
 piecesFor r c = piecesOf (λ p. spaceSquare p r) c

@@ -178,8 +178,9 @@ fn indices(steps: &[u32; 1000], store: &[u8], j: usize) -> Answer
     }
     let x = seat.held;
     let sums = x.sums;
-    let den = index::lden(steps, sums.day, sums.evening, sums.night);
-    let night = index::lnight(steps, sums.night);
+    let late = level::level(steps, sums.night);
+    let den = index::lden(steps, sums.day, sums.evening, sums.night, late);
+    let night = index::lnight(sums.night, late);
     Answer::Levels(den, night)
 }
 

@@ -8,14 +8,11 @@ use Rattle.level.specs.declared.Loudness.{Loudness}
 use Rattle.index.proofs.lnight.Statement.{statement}
 use Rattle.index.proofs.lnight.Tie as tie
 
-level-requires : tie.Need-level-requires
-level-requires c κs = search needs
-
 in-tenths-requires : tie.Need-in-tenths-requires
-in-tenths-requires c κs = rw (c .level .ensures) (level-any (c .before .args .night) (c .before .fits .night .fits))
+in-tenths-requires c κs = rw (c .pre) (level-any (c .args .night) (c .fits .night .fits))
 
 returns : tie.Need-returns
-returns c = c .in-tenths .ensures ∙ ap tenthsOf (c .before .level .ensures)
+returns c = c .in-tenths .ensures ∙ ap tenthsOf (c .before .pre)
 
 pub lnight-spec : {M : Type 1} → statement M
-lnight-spec = tie.close (tie.spec level-requires in-tenths-requires returns)
+lnight-spec = tie.close (tie.spec in-tenths-requires returns)

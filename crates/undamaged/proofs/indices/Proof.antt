@@ -34,26 +34,29 @@ returns c =
 within : (a b d : ℕ) → a ≤ top → b ≤ top → d ≤ top → (a ≤ top) × (b ≤ top) × (d ≤ top)
 within a b d x y z = (x, y, z)
 
+level-requires : tie.Need-level-requires
+level-requires c κs = search needs
+
 lden-requires : tie.Need-lden-requires
 lden-requires c κs =
-    let t = c .before .before .before .before in
+    let t = c .before .before .before .before .before in
     let start = t .before .before in
-    let st = seat-stands (start .args .store .now) (start .args .j) (start .pre .1) (start .pre .2) (t .seat .result) (t .seat .ensures) (not-false _ (c .before .before .if1 .left)) in
+    let st = seat-stands (start .args .store .now) (start .args .j) (start .pre .1) (start .pre .2) (t .seat .result) (t .seat .ensures) (not-false _ (c .before .before .before .if1 .left)) in
     let a = and-both _ _ (st .1) in
     let b = and-both _ _ (a .0) in
-    (start .pre .0, leb-true _ _ (b .0), leb-true _ _ (b .1), leb-true _ _ (a .1))
+    (start .pre .0, leb-true _ _ (b .0), leb-true _ _ (b .1), leb-true _ _ (a .1), c .level .ensures)
 
 lnight-requires : tie.Need-lnight-requires
-lnight-requires c κs = search needs
+lnight-requires c κs = c .before .level .ensures
 
 returns-2 : tie.Need-returns-2
 returns-2 c =
-    let t = c .before .before .before .before .before .before in
+    let t = c .before .before .before .before .before .before .before in
     let start = t .before .before in
     let s = start .args .store .now in
-    let used = seat-used s (start .args .j) (start .pre .1) (start .pre .2) (t .seat .result) (t .seat .ensures) (not-false _ (c .before .before .before .before .if1 .left)) in
+    let used = seat-used s (start .args .j) (start .pre .1) (start .pre .2) (t .seat .result) (t .seat .ensures) (not-false _ (c .before .before .before .before .before .if1 .left)) in
     (λ i. (Levels (c .before .lden .ensures i) (c .lnight .ensures i), s))
     ∙ ap (λ (o : Option Held). told s (fromUsed o (λ (x : Held). tell (Levels (ldenOf (x .sums .day) (x .sums .evening) (x .sums .night)) (lnightOf (x .sums .night)))))) (sym used)
 
 pub indices-spec : {M : Type 1} → statement M
-indices-spec = tie.close (tie.spec seat-requires returns lden-requires lnight-requires returns-2)
+indices-spec = tie.close (tie.spec seat-requires returns level-requires lden-requires lnight-requires returns-2)
