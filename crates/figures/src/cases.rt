@@ -17,6 +17,7 @@ use road::emission;
 use road::judge;
 ghost use mathlib.Core.Path.{_≡_};
 ghost use Prim.Native.Nat.{_≤_};
+ghost use Rattle.course.specs.Course.{wholeOf};
 ghost use Rattle.level.specs.Table.{table};
 ghost use Rattle.road.specs.declared.Shares.{Shares};
 ghost use Rattle.road.specs.declared.Pair.the-variants.{Heard};
@@ -52,7 +53,9 @@ fn piece(x: u32, length: u32) -> Piece
 }
 
 // The road, wherever it runs.
-fn road_on(course: Course) -> Source {
+fn road_on(course: Course) -> Source
+    ensures { λ s. ⌜ s .course ≡ course ⌝ }
+{
     let busy = Traffic { m: 1000000, p: 0 };
     let late = Traffic { m: 100000, p: 0 };
     Source {
@@ -71,7 +74,9 @@ fn road_on(course: Course) -> Source {
 }
 
 // With its middle at x and of some length.
-pub fn street(x: u32, length: u32) -> Source {
+pub fn street(x: u32, length: u32) -> Source
+    ensures { λ s. ⌜ (wholeOf (s .course) .x ≡ x) × (wholeOf (s .course) .y ≡ 100000) ⌝ }
+{
     road_on(Course::Uncut(piece(x, length)))
 }
 
