@@ -170,7 +170,9 @@ along-join-requires t c κs =
     let f = shareBy (a .voices) (a .r) in
     let u = piecesBetween (far (a .r)) (h .before .first-half .result) in
     let v = piecesBetween (far (a .r)) (h .second-half .result) in
-    (subst⁻¹ Mild (c .before .before .before .along .ensures) (over-bounded f (a .r) u), subst⁻¹ Mild (c .along2 .ensures) (over-bounded f (a .r) v))
+    let x : Mild (c .before .before .before .along .result) = subst⁻¹ Mild (c .before .before .before .along .ensures) (over-bounded f (a .r) u) in
+    let y : Mild (c .along2 .result) = subst⁻¹ Mild (c .along2 .ensures) (over-bounded f (a .r) v) in
+    (search (x, y), search (x, y))
 
 along-returns : (t : ℕ) → along-lts.Need-returns (calls t) (along-at t) along.Post
 along-returns t c =
