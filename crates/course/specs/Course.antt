@@ -76,7 +76,7 @@ wholeOf (Between e) = onePiece e
 
 -- ---- what is promised
 
--- a piece is long for its length, at the squared distance q
+-- a piece is short enough for the squared distance q
 abbrev pub Fits : ℕ → Piece → Type 0
 Fits q p = 4 * square (p .length) ≤ q
 
