@@ -135,8 +135,9 @@ fn hear(steps: &[u32; 1000], voices: [Voice; 3], length: Term, q0: u64, q: u64, 
     requires { ⌜ (length .up ≤ 20000) × (length .down ≤ 20000) ⌝ }
     ensures { λ p. ⌜ p ≡ hearOf voices length q0 q h ⌝ }
 {
-    let near = root::root(q0);
-    let far = root::root_from(q, near + 1);
+    let lines = root::last_lines(q0, q);
+    let near = lines.near.root;
+    let far = lines.far.root;
     let over = way(steps, q, far, h);
     let up = length.up + over.up;
     let down = length.down + over.down;

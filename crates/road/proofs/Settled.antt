@@ -154,10 +154,19 @@ second-half-settled l a = settled _ _
 too-long-settled : SettlesResult course.too_long.Reads.Post
 too-long-settled l a = settled _ _
 
--- ---- roots, whose contract is two inequalities
+root-step-settled : SettlesResult root.step.Reads.Post
+root-step-settled l a = settled _ _
+
+highest-settled : SettlesResult root.highest.Reads.Post
+highest-settled l a = settled _ _
+
+last-line-settled : SettlesResult root.last_line.Reads.Post
+last-line-settled l a = settled _ _
+
+last-lines-settled : SettlesResult root.last_lines.Reads.Post
+last-lines-settled l a = settled _ _
+
+-- ---- the root, whose contract is two inequalities
 
 root-settled : SettlesResult root.root.Reads.Post
 root-settled l a x y p q = root-one (a .0) (x .0) (y .0) (record { at-most = p .0; above = p .1 }) (record { at-most = q .0; above = q .1 })
-
-root-from-settled : SettlesResult root.root_from.Reads.Post
-root-from-settled l a x y p q = root-one (a .0) (x .0) (y .0) (record { at-most = p .0; above = p .1 }) (record { at-most = q .0; above = q .1 })
