@@ -15,12 +15,15 @@ pub mod jobs;
 pub mod level;
 pub mod limits;
 pub mod listing;
+pub mod longhand;
 pub mod pieces;
 #[cfg(test)]
 mod power;
 pub mod probe;
 pub mod record;
 pub mod road;
+pub mod roots;
+pub mod sheets;
 pub mod store;
 pub mod stores;
 pub mod town;

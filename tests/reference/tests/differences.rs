@@ -8,8 +8,10 @@ use std::process::Command;
 const COMPARE_JOBS: &str = env!("CARGO_BIN_EXE_compare-jobs");
 const COMPARE_STORES: &str = env!("CARGO_BIN_EXE_compare-stores");
 const COMPARE_RECORDS: &str = env!("CARGO_BIN_EXE_compare-records");
+const COMPARE_ROOTS: &str = env!("CARGO_BIN_EXE_compare-roots");
 const REFERENCE_JOB: &str = env!("CARGO_BIN_EXE_reference-job");
 const REFERENCE_PROBE: &str = env!("CARGO_BIN_EXE_reference-probe");
+const REFERENCE_LONGHAND: &str = env!("CARGO_BIN_EXE_reference-longhand");
 const OTHER: &str = env!("CARGO_BIN_EXE_make-bypass");
 
 /// Whether all agree, and what is said of a difference.
@@ -31,6 +33,7 @@ fn what_agrees_is_passed() {
         (COMPARE_JOBS, REFERENCE_JOB),
         (COMPARE_STORES, REFERENCE_PROBE),
         (COMPARE_RECORDS, REFERENCE_PROBE),
+        (COMPARE_ROOTS, REFERENCE_LONGHAND),
     ] {
         assert_eq!(compared(compare, program), (true, String::new()));
     }
@@ -38,7 +41,7 @@ fn what_agrees_is_passed() {
 
 #[test]
 fn differences_are_kept_beside_the_comparing_program() {
-    for compare in [COMPARE_JOBS, COMPARE_STORES, COMPARE_RECORDS] {
+    for compare in [COMPARE_JOBS, COMPARE_STORES, COMPARE_RECORDS, COMPARE_ROOTS] {
         let (same, said) = compared(compare, OTHER);
         assert!(!same && said.contains("fixed-0"), "{said}");
         let folder = Path::new(compare).with_file_name("differences");
