@@ -4,7 +4,8 @@ use mathlib.Core.Path.{_≡_, refl}
 use mathlib.Core.List.{[], _∷_}
 use Rattle.answer.specs.declared.Refusal.the-variants.{Vacant}
 use Rattle.index.specs.declared.Index.the-variants.{Quiet, Tenths}
-use Rattle.listing.specs.Listing.{digitsIn, decimal, askLine, refusalLine, endLine}
+use Rattle.text.specs.Text.{digitsIn, decimal}
+use Rattle.listing.specs.Listing.{askLine, refusalLine, endLine}
 
 -- 3 R05 61.6 50.3
 pub an-ask : askLine 3 5 (Tenths 616) (Tenths 503) ≡ 51 ∷ 32 ∷ 82 ∷ 48 ∷ 53 ∷ 32 ∷ 54 ∷ 49 ∷ 46 ∷ 54 ∷ 32 ∷ 53 ∷ 48 ∷ 46 ∷ 51 ∷ 10 ∷ []

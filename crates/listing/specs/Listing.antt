@@ -1,6 +1,6 @@
 -- The lines of the listing (METHOD 10), as lists of byte values; a comment has the text that they are in ASCII.
 -- A record that is placed or withdrawn has no line.
-use Prim.Native.Nat.{ℕ, zero, suc, _+_, _/_, _%_}
+use Prim.Native.Nat.{ℕ, _/_}
 use mathlib.Core.Bool.{cond}
 use mathlib.Core.List.{List, [], _∷_, _++_}
 use lib.Dec.{ltb}
@@ -11,21 +11,7 @@ use Rattle.index.specs.declared.Index.{Index}
 use Rattle.index.specs.declared.Index.the-variants.{Quiet, Tenths}
 use Rattle.service.specs.declared.Outcome.{Outcome}
 use Rattle.service.specs.declared.Outcome.the-variants.{Done, Levels, Refused}
-
--- the last digit of n, from 0 (48) to 9 (57)
-abbrev pub digit : ℕ → ℕ
-digit n = 48 + n % 10
-
--- the digits of n in so many turns at most, none of them for 0: those of n / 10, then its last
-unfoldable pub digitsIn : ℕ → ℕ → List ℕ
-digitsIn zero n = []
-digitsIn (suc turns) zero = []
-digitsIn (suc turns) (suc m) = digitsIn turns (suc m / 10) ++ (digit (suc m) ∷ [])
-
--- 'The listing': a number without leading zeros, 0 for none
-unfoldable pub decimal : ℕ → List ℕ
-decimal zero = 48 ∷ []  -- 0
-decimal (suc m) = digitsIn (suc m) (suc m)
+use Rattle.text.specs.Text.{digit, decimal}
 
 -- 'The listing': a slot or the number of a refusal, each below 100, in two digits
 abbrev pub twoDigits : ℕ → List ℕ

@@ -3,7 +3,8 @@
 use mathlib.Core.Path.{_≡_, refl}
 use mathlib.Core.List.{[], _∷_}
 use Rattle.root.specs.Root.{rooted, pairsIn}
-use Rattle.longhand.specs.Sheet.{columns, short, digitsIn, decimal, firstLine, row, rows, term, lastLine, sheetOf}
+use Rattle.text.specs.Text.{digitsIn, decimal}
+use Rattle.longhand.specs.Sheet.{columns, short, firstLine, row, rows, term, lastLine, sheetOf}
 
 -- 0 has no pairs
 --

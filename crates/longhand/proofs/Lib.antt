@@ -1,5 +1,4 @@
--- What a sheet's numbers are in digits, how texts follow each other, and how the rows of a sheet do.
-pub mod Decimal
+-- How columns are written, how the rows of a sheet follow each other, and what its digits are worth.
 pub mod Writing
 pub mod Rows
 pub mod Values

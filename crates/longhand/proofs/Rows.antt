@@ -13,10 +13,12 @@ use Rattle.root.specs.Root.{line, lineOf, rootOf, pairsOf, stepAt}
 use Rattle.root.proofs.Laws.{left-is}
 use Rattle.root.proofs.Pairs.{pairs-is, room-le, next-place}
 use Rattle.root.proofs.Steps.{standing, Stands, stands-first, stands-next, stands-last}
-use Rattle.longhand.specs.Sheet.{short, firstLine, row, rows, term, lastLine, sheetOf, written}
+use Rattle.text.specs.Text.{written}
+use Rattle.longhand.specs.Sheet.{short, firstLine, row, rows, term, lastLine, sheetOf}
 use Rattle.longhand.specs.Inner.{movedRight}
-use Rattle.longhand.proofs.Decimal.{length-count}
-use Rattle.longhand.proofs.Writing.{Wrote, ends, as-long, then, length-columns}
+use Rattle.text.proofs.Decimal.{length-count}
+use Rattle.text.proofs.Writing.{Wrote, ends, as-long, then}
+use Rattle.longhand.proofs.Writing.{length-columns}
 
 -- ---- lengths
 

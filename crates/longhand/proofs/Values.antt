@@ -11,22 +11,14 @@ use borrow.Author.Tests.{lt-ltb, le-ltb, ne-eqb}
 use lib.Pow.{pow-add}
 use Rattle.root.specs.Root.{lineOf, rootOf}
 use Rattle.root.proofs.Laws.{left-is}
-use Rattle.longhand.specs.Sheet.{mark, columns, short, digit, decimal, valueBehind, Promises}
+use Rattle.root.proofs.Pairs.{four-square}
+use Rattle.text.specs.Text.{digit, decimal, valueAfter}
+use Rattle.longhand.specs.Sheet.{mark, columns, short, Promises}
 use Rattle.longhand.specs.declared.reading.Reading.{Reading}
 use Rattle.longhand.specs.declared.reading.Reading.the-variants.{Nothing, Number, Wrong}
 use Rattle.longhand.specs.Reading.{below, withDigit, fedBy, readOf}
 use Rattle.longhand.specs.Reading.{Promises as Reading·Promises}
-use Rattle.longhand.proofs.Decimal.{by-digits}
-
--- one digit more
-value-last : (base v b : ℕ) (l : List ℕ) → valueBehind base v (l ++ (b ∷ [])) ≡ valueBehind base v l * base + (b - 48)
-value-last base v b [] = refl
-value-last base v b (a ∷ l) = value-last base (v * base + (a - 48)) b l
-
-decimal-is : (x : ℕ) → valueBehind 10 0 (decimal x) ≡ x
-decimal-is =
-    by-digits (λ n l. valueBehind 10 0 l ≡ n) (λ n h. omega arith)
-    (λ n h e. value-last 10 0 (digit n) (decimal (n / 10)) ∙ ap (λ (x : ℕ). x * 10 + (digit n - 48)) e ∙ omega arith)
+use Rattle.text.proofs.Decimal.{by-digits, value-last}
 
 -- ---- in binary
 
@@ -40,14 +32,14 @@ mark-is lead (suc v) h =
 half-less : (w v : ℕ) → v < 2 ^ suc w → v / 2 < 2 ^ w
 half-less w v h = let e : 2 ^ suc w ≡ 2 ^ w * 2 = pow-suc 2 w in omega (arith, e)
 
-columns-are : (lead w v : ℕ) → lead ≤ 48 → v < 2 ^ w → valueBehind 2 0 (columns lead w v) ≡ v
+columns-are : (lead w v : ℕ) → lead ≤ 48 → v < 2 ^ w → valueAfter 2 0 (columns lead w v) ≡ v
 unfolding columns
 columns-are lead zero v h l = omega arith
 columns-are lead (suc w) v h l =
     value-last 2 0 (mark lead v) (columns lead w (v / 2))
     ∙ omega (arith, columns-are lead w (v / 2) h (half-less w v l), mark-is lead v h)
 
-short-is : (w v : ℕ) → 1 ≤ w → v < 2 ^ w → valueBehind 2 0 (short w v) ≡ v
+short-is : (w v : ℕ) → 1 ≤ w → v < 2 ^ w → valueAfter 2 0 (short w v) ≡ v
 unfolding short columns
 short-is w v h l =
     let e : w ≡ suc (w - 1) = omega arith in
@@ -56,14 +48,6 @@ short-is w v h l =
     ∙ omega (arith, columns-are 32 (w - 1) (v / 2) (omega arith) (half-less (w - 1) v k), mark-is 48 v (omega arith))
 
 -- ---- room
-
-four-square : (i : ℕ) → 4 ^ i ≡ 2 ^ i * 2 ^ i
-four-square zero = refl
-four-square (suc i) =
-    pow-suc 4 i
-    ∙ ap (_* 4) (four-square i)
-    ∙ mul-mul-mul-comm (2 ^ i) (2 ^ i) 2 2
-    ∙ (λ j. sym (pow-suc 2 i) j * sym (pow-suc 2 i) j)
 
 root-fits : (i m : ℕ) → m < 4 ^ i → lineOf m .root < 2 ^ i
 unfolding rootOf
@@ -87,7 +71,6 @@ of-sheets =
     record {
       bits-are = λ w v. columns-are 48 w v (omega arith);
       short-is = short-is;
-      decimal-is = decimal-is;
       root-fits = root-fits;
       left-fits = left-fits;
     }

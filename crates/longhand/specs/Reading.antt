@@ -7,7 +7,7 @@ use mathlib.Core.List.{List, [], _∷_}
 use lib.Dec.{ltb}
 use Rattle.longhand.specs.declared.reading.Reading.{Reading}
 use Rattle.longhand.specs.declared.reading.Reading.the-variants.{Nothing, Number, Wrong}
-use Rattle.longhand.specs.Sheet.{decimal}
+use Rattle.text.specs.Text.{decimal}
 
 -- a number, if it is below 2^64
 abbrev pub below : ℕ → Reading

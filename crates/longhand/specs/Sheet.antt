@@ -5,10 +5,9 @@ use mathlib.Core.Path.{_≡_}
 use mathlib.Core.Bool.{cond}
 use mathlib.Core.List.{List, [], _∷_, _++_}
 use lib.Dec.{eqb}
-use lib.ListN.{length}
-use Rattle.layout.specs.Over.{over}
 use Rattle.root.specs.declared.Line.{Line}
 use Rattle.root.specs.Root.{lineOf, pairsOf}
+use Rattle.text.specs.Text.{decimal, valueAfter}
 
 -- ---- numbers
 
@@ -31,21 +30,6 @@ blanks w = columns 32 w 0
 -- v at the right of w columns: leading zeros are blanks, but for the last digit
 unfoldable pub short : ℕ → ℕ → List ℕ
 short w v = columns 32 (w - 1) (v / 2) ++ bits 1 v
-
--- the last decimal digit of x
-abbrev pub digit : ℕ → ℕ
-digit x = 48 + x % 10
-
--- the digits of x in so many turns at most, none of them for 0: those of x / 10, then its last
-unfoldable pub digitsIn : ℕ → ℕ → List ℕ
-digitsIn zero x = []
-digitsIn (suc turns) zero = []
-digitsIn (suc turns) (suc m) = digitsIn turns (suc m / 10) ++ (digit (suc m) ∷ [])
-
--- a number in decimal without leading zeros, 0 for none
-unfoldable pub decimal : ℕ → List ℕ
-decimal zero = 48 ∷ []
-decimal (suc m) = digitsIn (suc m) (suc m)
 
 -- ---- lines
 
@@ -75,22 +59,12 @@ lastLine l q = decimal (l .root) ++ term 120 (l .root) ++ term 43 (l .left) ++ t
 unfoldable pub sheetOf : ℕ → List ℕ
 sheetOf q = firstLine (pairsOf q) q ++ rows (pairsOf q) (pairsOf q) q ++ lastLine (lineOf q) q
 
--- the place after the text t that is written into s at the place at, and s with it
-unfoldable pub written : ℕ → List ℕ → List ℕ → ℕ × List ℕ
-written at t s = (at + length t, over at t s)
-
 -- ---- what is promised
 
--- the number that digits to a base have behind others of the number v; a blank counts as 0
-abbrev pub valueBehind : ℕ → ℕ → List ℕ → ℕ
-valueBehind base v [] = v
-valueBehind base v (b ∷ l) = valueBehind base (v * base + (b - 48)) l
-
--- of every number: what is written of it has its value, and at every row what is left and the root so far have room in their columns.
+-- of every number: what is written of it in binary has its value (a blank counts as 0), and at every row what is left and the root so far have room in their columns.
 -- `of-sheets` in proofs/Values.antt is the proof
 pub record Promises : Type 0 where
-  pub bits-are : (w v : ℕ) → v < 2 ^ w → valueBehind 2 0 (bits w v) ≡ v
-  pub short-is : (w v : ℕ) → 1 ≤ w → v < 2 ^ w → valueBehind 2 0 (short w v) ≡ v
-  pub decimal-is : (x : ℕ) → valueBehind 10 0 (decimal x) ≡ x
+  pub bits-are : (w v : ℕ) → v < 2 ^ w → valueAfter 2 0 (bits w v) ≡ v
+  pub short-is : (w v : ℕ) → 1 ≤ w → v < 2 ^ w → valueAfter 2 0 (short w v) ≡ v
   pub root-fits : (i m : ℕ) → m < 4 ^ i → lineOf m .root < 2 ^ i
   pub left-fits : (i m : ℕ) → m < 4 ^ i → lineOf m .left < 2 ^ (2 * i)

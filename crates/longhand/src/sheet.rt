@@ -6,8 +6,9 @@ ghost use mathlib.Core.List.{[], _∷_};
 ghost use Prim.Native.Nat.{_+_, _≤_, _<_};
 ghost use lib.ListN.{length};
 ghost use Rattle.root.specs.Root.{pairsOf};
-ghost use Rattle.longhand.specs.Sheet.{mark, columns, bits, blanks, short, decimal, firstLine, row, term, lastLine, sheetOf, written};
-ghost use Rattle.longhand.specs.Inner.{lastDigits, movedRight};
+ghost use Rattle.longhand.specs.Sheet.{mark, columns, bits, blanks, short, firstLine, row, term, lastLine, sheetOf};
+ghost use Rattle.text.specs.Text.{written};
+ghost use Rattle.longhand.specs.Inner.{movedRight};
 
 // What is put is written from a place on, and each of these functions gives the place after it.
 
@@ -61,44 +62,6 @@ fn put_short(out: &mut [u8], at: usize, w: usize, v: u64) -> usize
     put_columns(out, at, 48, 1, v)
 }
 
-// How many decimal digits x has.
-fn digits(x: u64) -> usize
-    ensures { λ r. ⌜ r ≡ length (decimal x) ⌝ }
-{
-    let mut n = 1;
-    let mut rest = x;
-    while 10 <= rest {
-        rest = rest / 10;
-        n += 1;
-    }
-    n
-}
-
-// The last n decimal digits of x, the last of them first.
-fn put_digits(out: &mut [u8], at: usize, n: usize, x: u64) -> usize
-    requires { ⌜ at + n ≤ length (now out) ⌝ }
-    ensures { λ r. ⌜ (r, now (out .exit)) ≡ written at (lastDigits n x) (now (out .entry)) ⌝ }
-{
-    let mut left = n;
-    let mut rest = x;
-    while 0 < left {
-        left -= 1;
-        let b = 48 + rest % 10;
-        out[at + left] = b as u8;
-        rest = rest / 10;
-    }
-    at + n
-}
-
-// The number x in decimal: 20 digits at most.
-fn put_decimal(out: &mut [u8], at: usize, x: u64) -> usize
-    requires { ⌜ at + 20 ≤ length (now out) ⌝ }
-    ensures { λ r. ⌜ (r, now (out .exit)) ≡ written at (decimal x) (now (out .entry)) ⌝ }
-{
-    let n = digits(x);
-    put_digits(out, at, n, x)
-}
-
 // One byte.
 fn put_byte(out: &mut [u8], at: usize, b: u8) -> usize
     requires { ⌜ at + 1 ≤ length (now out) ⌝ }
@@ -145,7 +108,7 @@ fn put_term(out: &mut [u8], at: usize, sign: u8, x: u64) -> usize
     let at = put_byte(out, at, 32);
     let at = put_byte(out, at, sign);
     let at = put_byte(out, at, 32);
-    put_decimal(out, at, x)
+    text::put_decimal(out, at, x)
 }
 
 // The sum that proves the root, in decimal.
@@ -153,7 +116,7 @@ fn put_last(out: &mut [u8], at: usize, line: Line, q: u64) -> usize
     requires { ⌜ at + 90 ≤ length (now out) ⌝ }
     ensures { λ r. ⌜ (r, now (out .exit)) ≡ written at (lastLine line q) (now (out .entry)) ⌝ }
 {
-    let at = put_decimal(out, at, line.root);
+    let at = text::put_decimal(out, at, line.root);
     let at = put_term(out, at, b'x', line.root);
     let at = put_term(out, at, b'+', line.left);
     let at = put_term(out, at, b'=', q);

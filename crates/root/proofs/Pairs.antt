@@ -70,7 +70,7 @@ room-one q j k a b = le-antisymm (room-le q j k (a .least) (b .above)) (room-le 
 pub next-place : (k : ℕ) → 4 ^ suc k / 4 ≡ 4 ^ k
 next-place k = let p : 4 ^ suc k ≡ 4 ^ k * 4 = pow-suc 4 k in omega arith
 
-four-square : (k : ℕ) → 4 ^ k ≡ 2 ^ k * 2 ^ k
+pub four-square : (k : ℕ) → 4 ^ k ≡ 2 ^ k * 2 ^ k
 four-square zero = refl
 four-square (suc k) =
     pow-suc 4 k

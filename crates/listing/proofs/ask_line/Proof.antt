@@ -5,9 +5,11 @@ use mathlib.Core.List.{List, [], _∷_, _++_}
 use native.Mathlib.Omega.{arith}
 use borrow.Author.Needs.{needs}
 use denote.Ref.{now}
-use Rattle.listing.specs.Listing.{decimal, twoDigits, levelText, askLine}
-use Rattle.listing.proofs.Laws.{length-count}
-use Rattle.listing.proofs.Writing.{Part, room, next, ends, no-room, whole-line}
+use Rattle.text.specs.Text.{decimal}
+use Rattle.listing.specs.Listing.{twoDigits, levelText, askLine}
+use Rattle.text.proofs.Decimal.{length-count}
+use Rattle.text.proofs.Writing.{Part, room, next, ends}
+use Rattle.listing.proofs.Writing.{no-room, whole-line}
 use Rattle.listing.proofs.ask_line.Statement.{statement}
 use Rattle.listing.proofs.ask_line.Tie as tie
 

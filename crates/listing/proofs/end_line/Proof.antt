@@ -4,9 +4,11 @@ use mathlib.Core.List.{[], _∷_, _++_}
 use native.Mathlib.Omega.{arith}
 use borrow.Author.Needs.{needs}
 use denote.Ref.{now}
-use Rattle.listing.specs.Listing.{decimal, endLine}
-use Rattle.listing.proofs.Laws.{length-count}
-use Rattle.listing.proofs.Writing.{Part, room, next, no-room, whole-line}
+use Rattle.text.specs.Text.{decimal}
+use Rattle.listing.specs.Listing.{endLine}
+use Rattle.text.proofs.Decimal.{length-count}
+use Rattle.text.proofs.Writing.{Part, room, next}
+use Rattle.listing.proofs.Writing.{no-room, whole-line}
 use Rattle.listing.proofs.end_line.Statement.{statement}
 use Rattle.listing.proofs.end_line.Tie as tie
 

@@ -7,8 +7,8 @@ use borrow.Author.Needs.{needs}
 use denote.Ref.{now}
 use Rattle.index.specs.declared.Index.{Index}
 use Rattle.listing.specs.Listing.{levelText}
-use Rattle.listing.specs.Inner.{written}
-use Rattle.listing.proofs.Writing.{ends}
+use Rattle.text.specs.Text.{written}
+use Rattle.text.proofs.Writing.{ends}
 use Rattle.listing.proofs.put_level.Statement.{statement}
 use Rattle.listing.proofs.put_level.Tie as tie
 

@@ -6,8 +6,8 @@ use borrow.Author.Needs.{needs}
 use denote.Ref.{now}
 use lib.ListN.{length}
 use Rattle.listing.specs.Listing.{twoDigits}
-use Rattle.listing.specs.Inner.{lastDigits}
-use Rattle.listing.proofs.Writing.{Part, room, next}
+use Rattle.text.specs.Text.{lastDigits}
+use Rattle.text.proofs.Writing.{Part, room, next}
 use Rattle.listing.proofs.put_mark.Statement.{statement}
 use Rattle.listing.proofs.put_mark.Tie as tie
 

@@ -6,10 +6,10 @@ use mathlib.Core.List.{List, [], _∷_, _++_, append-assoc}
 use native.Mathlib.Omega.{arith}
 use borrow.Author.Needs.{needs}
 use denote.Ref.{now}
-use Rattle.listing.specs.Listing.{digit, decimal}
-use Rattle.listing.specs.Inner.{lastDigits, written}
+use Rattle.text.specs.Text.{digit, decimal}
+use Rattle.text.specs.Text.{lastDigits, written}
 use Rattle.listing.proofs.Laws.{length-whole}
-use Rattle.listing.proofs.Writing.{Part, room, next, ends}
+use Rattle.text.proofs.Writing.{Part, room, next, ends}
 use Rattle.listing.proofs.put_tenths.Statement.{statement}
 use Rattle.listing.proofs.put_tenths.Tie as tie
 

@@ -7,10 +7,12 @@ use native.Mathlib.Omega.{arith}
 use borrow.Author.Needs.{needs}
 use denote.Ref.{now}
 use Rattle.answer.specs.Table.{numberOf}
-use Rattle.listing.specs.Listing.{decimal, twoDigits, refusalLine}
-use Rattle.listing.specs.Inner.{written}
-use Rattle.listing.proofs.Laws.{length-count}
-use Rattle.listing.proofs.Writing.{Wrote, Part, room, next, no-room, whole-line}
+use Rattle.text.specs.Text.{decimal}
+use Rattle.listing.specs.Listing.{twoDigits, refusalLine}
+use Rattle.text.specs.Text.{written}
+use Rattle.text.proofs.Decimal.{length-count}
+use Rattle.text.proofs.Writing.{Wrote, Part, room, next}
+use Rattle.listing.proofs.Writing.{no-room, whole-line}
 use Rattle.listing.proofs.refusal_line.Statement.{statement}
 use Rattle.listing.proofs.refusal_line.Tie as tie
 

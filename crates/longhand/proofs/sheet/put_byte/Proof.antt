@@ -1,7 +1,7 @@
 -- `put_byte` writes one byte.
 -- Assumes nothing.
 use borrow.Author.Needs.{needs}
-use Rattle.longhand.proofs.Writing.{one-put}
+use Rattle.text.proofs.Writing.{one-put}
 use Rattle.longhand.proofs.sheet.put_byte.Statement.{statement}
 use Rattle.longhand.proofs.sheet.put_byte.Tie as tie
 

@@ -7,7 +7,8 @@ use native.Mathlib.Omega.{arith}
 use borrow.Author.Needs.{needs}
 use lib.ListN.{length, set, length-set}
 use Rattle.layout.specs.Over.{over}
-use Rattle.longhand.specs.Sheet.{columns, written}
+use Rattle.text.specs.Text.{written}
+use Rattle.longhand.specs.Sheet.{columns}
 use Rattle.longhand.proofs.Writing.{length-columns, column-put, columns-done}
 use Rattle.longhand.proofs.sheet.put_columns.Statement.{statement}
 use Rattle.longhand.proofs.sheet.put_columns.Tie as tie

@@ -6,7 +6,8 @@ use native.Mathlib.Omega.{arith}
 use borrow.Author.Needs.{needs}
 use denote.Ref.{now}
 use Rattle.longhand.specs.Sheet.{bits, blanks, firstLine}
-use Rattle.longhand.proofs.Writing.{Part, room, next, length-columns}
+use Rattle.text.proofs.Writing.{Part, room, next}
+use Rattle.longhand.proofs.Writing.{length-columns}
 use Rattle.longhand.proofs.sheet.put_first.Statement.{statement}
 use Rattle.longhand.proofs.sheet.put_first.Tie as tie
 

@@ -4,9 +4,10 @@ use mathlib.Core.List.{[], _∷_, _++_}
 use native.Mathlib.Omega.{arith}
 use borrow.Author.Needs.{needs}
 use denote.Ref.{now}
-use Rattle.longhand.specs.Sheet.{decimal, term, lastLine}
-use Rattle.longhand.proofs.Decimal.{length-count}
-use Rattle.longhand.proofs.Writing.{Part, room, next}
+use Rattle.text.specs.Text.{decimal}
+use Rattle.longhand.specs.Sheet.{term, lastLine}
+use Rattle.text.proofs.Decimal.{length-count}
+use Rattle.text.proofs.Writing.{Part, room, next}
 use Rattle.longhand.proofs.Rows.{length-term}
 use Rattle.longhand.proofs.sheet.put_last.Statement.{statement}
 use Rattle.longhand.proofs.sheet.put_last.Tie as tie

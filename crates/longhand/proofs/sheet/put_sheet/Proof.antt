@@ -7,7 +7,8 @@ use borrow.Author.Needs.{needs}
 use denote.Ref.{now}
 use Rattle.root.specs.declared.Line.{Line}
 use Rattle.root.proofs.Steps.{stands-fits}
-use Rattle.longhand.specs.Sheet.{firstLine, lastLine, written}
+use Rattle.text.specs.Text.{written}
+use Rattle.longhand.specs.Sheet.{firstLine, lastLine}
 use Rattle.longhand.proofs.Rows.{pairs-few, first-room, So-far, so-far-first, one-more, row-room, last-room, same-long, so-far-next, so-far-last, whole-sheet}
 use Rattle.longhand.proofs.sheet.put_sheet.Statement.{statement}
 use Rattle.longhand.proofs.sheet.put_sheet.Tie as tie

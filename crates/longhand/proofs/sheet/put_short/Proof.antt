@@ -5,7 +5,8 @@ use native.Mathlib.Omega.{arith}
 use borrow.Author.Needs.{needs}
 use denote.Ref.{now}
 use Rattle.longhand.specs.Sheet.{columns, short}
-use Rattle.longhand.proofs.Writing.{Part, room, next, length-columns}
+use Rattle.text.proofs.Writing.{Part, room, next}
+use Rattle.longhand.proofs.Writing.{length-columns}
 use Rattle.longhand.proofs.sheet.put_short.Statement.{statement}
 use Rattle.longhand.proofs.sheet.put_short.Tie as tie
 

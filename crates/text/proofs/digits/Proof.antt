@@ -5,10 +5,10 @@ use mathlib.Core.Path.{_≡_}
 use native.Mathlib.Omega.{arith}
 use borrow.Author.Needs.{needs}
 use lib.ListN.{length}
-use Rattle.listing.specs.Listing.{decimal}
-use Rattle.listing.proofs.Laws.{length-one, length-more, length-count}
-use Rattle.listing.proofs.digits.Statement.{statement}
-use Rattle.listing.proofs.digits.Tie as tie
+use Rattle.text.specs.Text.{decimal}
+use Rattle.text.proofs.Decimal.{length-one, length-more, length-count}
+use Rattle.text.proofs.digits.Statement.{statement}
+use Rattle.text.proofs.digits.Tie as tie
 
 abbrev Inv-loop : tie.InvT-loop
 Inv-loop x n₀ rest₀ n rest = n + length (decimal rest) ≡ length (decimal x) + 1

@@ -8,10 +8,10 @@ use borrow.Author.Needs.{needs}
 use denote.Ref.{now}
 use lib.ListN.{length, drop, length-set}
 use Rattle.layout.specs.Over.{over}
-use Rattle.listing.specs.Inner.{written}
-use Rattle.listing.proofs.Writing.{text-start, text-put, text-done}
-use Rattle.listing.proofs.put_text.Statement.{statement}
-use Rattle.listing.proofs.put_text.Tie as tie
+use Rattle.text.specs.Text.{written}
+use Rattle.text.proofs.Writing.{text-start, text-put, text-done}
+use Rattle.text.proofs.put_text.Statement.{statement}
+use Rattle.text.proofs.put_text.Tie as tie
 
 abbrev Inv-loop : tie.InvT-loop
 Inv-loop out₀ at text i₀ out i =

@@ -7,11 +7,11 @@ use native.Mathlib.Omega.{arith}
 use borrow.Author.Needs.{needs}
 use lib.ListN.{length, length-set}
 use Rattle.layout.specs.Over.{over}
-use Rattle.listing.specs.Inner.{lastDigits, written}
-use Rattle.listing.proofs.Laws.{length-lastDigits}
-use Rattle.listing.proofs.Writing.{digit-put, digits-done}
-use Rattle.listing.proofs.put_digits.Statement.{statement}
-use Rattle.listing.proofs.put_digits.Tie as tie
+use Rattle.text.specs.Text.{lastDigits, written}
+use Rattle.text.proofs.Decimal.{length-lastDigits}
+use Rattle.text.proofs.Writing.{decimal-put, decimal-done}
+use Rattle.text.proofs.put_digits.Statement.{statement}
+use Rattle.text.proofs.put_digits.Tie as tie
 
 abbrev Inv-loop : tie.InvT-loop
 Inv-loop out₀ at n x left₀ rest₀ out left rest =
@@ -47,7 +47,7 @@ loop-again c =
     let a = l .before .args in (
       omega arith,
       simp length-set (l .loop .inv .1),
-      digit-put (l .loop .out) _ (a .at) (l .loop .left) (l .loop .rest) (omega arith) (omega (arith, l .loop .inv .1, l .before .pre)) (l .loop .inv .2),
+      decimal-put (l .loop .out) _ (a .at) (l .loop .left) (l .loop .rest) (omega arith) (omega (arith, l .loop .inv .1, l .before .pre)) (l .loop .inv .2),
     )
 
 add-result : tie.Need-add-result Inv-loop μ-loop
@@ -62,7 +62,7 @@ returns c =
     let l = c .before in
     let a = l .before .args in
     ap₂ (λ (k : ℕ) (o : List ℕ). (a .at + k, o)) (sym (length-lastDigits (a .n) (a .x)))
-    (digits-done (l .loop .out) _ (a .at) (l .loop .left) (l .loop .rest) (omega arith) (l .loop .inv .2))
+    (decimal-done (l .loop .out) _ (a .at) (l .loop .left) (l .loop .rest) (omega arith) (l .loop .inv .2))
 
 pub put-digits-spec : {M : Type 1} → statement M
 put-digits-spec =

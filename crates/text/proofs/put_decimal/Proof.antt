@@ -6,10 +6,10 @@ use mathlib.Core.List.{List}
 use native.Mathlib.Omega.{arith}
 use borrow.Author.Needs.{needs}
 use denote.Ref.{now}
-use Rattle.listing.specs.Inner.{lastDigits, written}
-use Rattle.listing.proofs.Laws.{decimal-last, length-count}
-use Rattle.listing.proofs.put_decimal.Statement.{statement}
-use Rattle.listing.proofs.put_decimal.Tie as tie
+use Rattle.text.specs.Text.{lastDigits, written}
+use Rattle.text.proofs.Decimal.{decimal-last, length-count}
+use Rattle.text.proofs.put_decimal.Statement.{statement}
+use Rattle.text.proofs.put_decimal.Tie as tie
 
 digits-requires : tie.Need-digits-requires
 digits-requires c κs = search needs
