@@ -3,6 +3,7 @@
 
 use reference::inputs::{job_input, probe_input};
 use reference::listing::list;
+use reference::longhand::put_sheets;
 use reference::probe::answers;
 use std::path::Path;
 
@@ -23,4 +24,12 @@ fn the_job_program_is_tried_on_the_example() {
 fn the_probing_program_is_tried_on_these_frames() {
     assert_eq!(probe_input(), file("probe/stdin"));
     assert_eq!(answers(&probe_input()), file("probe/stdout"));
+}
+
+#[test]
+fn longhand_is_tried_on_two_distances_of_the_figures() {
+    let numbers = String::from_utf8(file("longhand/stdin")).unwrap();
+    let mut sheets = Vec::new();
+    put_sheets(&numbers, &mut sheets).unwrap();
+    assert_eq!(sheets, file("longhand/stdout"));
 }
