@@ -4,7 +4,6 @@
 use crate::course::{cut, Course, Piece, Point};
 use crate::fields::{Field, COMMON_FIELDS, LENGTH, MINUS, RECEIVER_FIELDS};
 use crate::level::{energy, lv, FAINTEST, STEPS};
-use crate::longhand;
 
 /// A number for the caller, with the field or slot it speaks of (0 where there is none).
 #[derive(Clone, Copy, Debug, PartialEq, Eq)]
@@ -324,9 +323,16 @@ pub fn weather_term(strength: i64, heights: i64, root: i64) -> i64 {
     -(strength * (root - 10 * heights)).div_euclid(root)
 }
 
-/// The whole root of a whole number that is not below 0, down.
+/// The whole root of a whole number, down.
 pub fn root(square: i64) -> i64 {
-    longhand::root(square as u64) as i64
+    let mut guess = (square as f64).sqrt() as i64;
+    while guess * guess > square {
+        guess -= 1;
+    }
+    while (guess + 1) * (guess + 1) <= square {
+        guess += 1;
+    }
+    guess
 }
 
 /// Levels by day, evening and night; none where nothing drives.

@@ -2,6 +2,7 @@
 // what the numbers by chance meet, and whether a sheet that differs is noticed.
 
 use reference::longhand::{pairs, parts, put_sheet, put_sheets, root};
+use reference::road;
 use reference::roots::{fixed_numbers, number};
 use reference::sheets::{compare_sheets, Asked};
 use std::collections::BTreeSet;
@@ -91,6 +92,14 @@ fn roots_are_the_greatest_whose_squares_fit() {
         let found = root(number);
         assert!(square_of(found) <= u128::from(number), "{number}");
         assert!(square_of(found + 1) > u128::from(number), "{number}");
+    }
+}
+
+/// Distances stay far below 2^62, where the book's root still squares one more than it.
+#[test]
+fn the_roots_of_distances_are_these_roots() {
+    for number in numbers().filter(|number| *number < 1 << 62) {
+        assert_eq!(road::root(number as i64) as u64, root(number), "{number}");
     }
 }
 
