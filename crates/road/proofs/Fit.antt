@@ -18,6 +18,8 @@ use Rattle.course.specs.declared.Ends.{Ends}
 use Rattle.course.specs.declared.Course.{Course}
 use Rattle.course.specs.declared.Course.the-variants.{Uncut, Between}
 use Rattle.course.specs.Course.{lengthOf, onePiece, wholeOf, Mapped, Drawn}
+use Rattle.screen.specs.declared.Wall.{Wall}
+use Rattle.screen.specs.Plan.{WallOnPlan}
 use Rattle.road.specs.declared.Source.{Source}
 use Rattle.road.specs.declared.Receiver.{Receiver}
 use Rattle.road.specs.declared.Verdict.{Verdict}
@@ -26,9 +28,9 @@ use Rattle.road.specs.Term.{period}
 use Rattle.road.specs.Emission.{carSpeed, truckSpeed, carLevel, truckLevel}
 use Rattle.road.specs.Limits.{coordinate, longest, lastSurface, lastReflection, mostVehicles, allTrucks, lowestReceiver, highestReceiver}
 use Rattle.road.specs.Emission.{sign}
-use Rattle.road.specs.Fields.{Row, pieceTable, endsTable, lengthTable, sourceTable, receiverTable, valuesBy, leastBy, mostBy, bitsBy, slotBitsBy, numberAt}
+use Rattle.road.specs.Fields.{Row, pieceTable, endsTable, lengthTable, sourceTable, receiverTable, wallTable, valuesBy, leastBy, mostBy, bitsBy, slotBitsBy, numberAt}
 use Rattle.road.proofs.Rows.{wider}
-use Rattle.road.specs.Judge.{outsideBy, unlessOutside, slowSurface, quietTruck, courseVerdict, restVerdict, sourceVerdict, receiverVerdict}
+use Rattle.road.specs.Judge.{outsideBy, unlessOutside, slowSurface, quietTruck, courseVerdict, restVerdict, sourceVerdict, receiverVerdict, wallVerdict}
 
 -- a verdict that allows has passed each test on its way
 pub passed : (b : Bool) (r : Refusal) (v : Verdict) → cond b (Refused r) v ≡ Allowed → (b ≡ false) × (v ≡ Allowed)
@@ -184,3 +186,21 @@ receiver-within r e = fits receiverTable r Allowed e (bitsBy receiverTable) refl
 
 pub receiver-in-slot : (r : Receiver) → receiverVerdict r ≡ Allowed → Within (slotBitsBy receiverTable) (valuesBy receiverTable r)
 receiver-in-slot r e = wider receiverTable (valuesBy receiverTable r) refl (receiver-within r e)
+
+-- a wall stands on the plan
+pub fit-wall : (w : Wall) → wallVerdict w ≡ Allowed → WallOnPlan w
+unfolding wallVerdict
+fit-wall w e =
+    let b = bounded wallTable w Allowed e in
+    record {
+      from = record { x = omega (arith, b 0 (omega arith) .1); y = omega (arith, b 1 (omega arith) .1) };
+      to = record { x = omega (arith, b 2 (omega arith) .1); y = omega (arith, b 3 (omega arith) .1) };
+      low = b 4 (omega arith) .1;
+    }
+
+pub wall-within : (w : Wall) → wallVerdict w ≡ Allowed → Within (bitsBy wallTable) (valuesBy wallTable w)
+unfolding wallVerdict
+wall-within w e = fits wallTable w Allowed e (bitsBy wallTable) refl refl
+
+pub wall-in-slot : (w : Wall) → wallVerdict w ≡ Allowed → Within (slotBitsBy wallTable) (valuesBy wallTable w)
+wall-in-slot w e = wider wallTable (valuesBy wallTable w) refl (wall-within w e)

@@ -15,12 +15,13 @@ use Rattle.answer.specs.declared.Refusal.the-variants.{Damaged, Field, SlowSurf
 use Rattle.answer.specs.Table.{numberOf, Between}
 use Rattle.course.specs.declared.Course.{Course}
 use Rattle.course.specs.declared.Course.the-variants as course
+use Rattle.screen.specs.declared.Wall.{Wall}
 use Rattle.road.specs.declared.Source.{Source}
 use Rattle.road.specs.declared.Receiver.{Receiver}
 use Rattle.road.specs.declared.Verdict.{Verdict}
 use Rattle.road.specs.declared.Verdict.the-variants.{Allowed, Refused}
-use Rattle.road.specs.Fields.{Row, numberAt, pieceTable, endsTable, lengthTable, roadTable, trafficTable, sourceTable, receiverTable}
-use Rattle.road.specs.Judge.{outsideBy, unlessOutside, slowSurface, quietTruck, courseVerdict, restVerdict, sourceVerdict, receiverVerdict, slotVerdict}
+use Rattle.road.specs.Fields.{Row, numberAt, pieceTable, endsTable, lengthTable, roadTable, trafficTable, sourceTable, receiverTable, wallTable}
+use Rattle.road.specs.Judge.{outsideBy, unlessOutside, slowSurface, quietTruck, courseVerdict, restVerdict, sourceVerdict, receiverVerdict, wallVerdict, slotVerdict}
 
 -- ---- the first field outside its limits is refused, and none leaves the rest to be judged
 
@@ -110,6 +111,10 @@ source-by s = course-by (s .course) (restVerdict s) (rest-by s)
 pub receiver-by : (r : Receiver) → ByFields (receiverVerdict r)
 unfolding receiverVerdict
 receiver-by r = outside-by receiverTable r Allowed tt
+
+pub wall-by : (w : Wall) → ByFields (wallVerdict w)
+unfolding wallVerdict
+wall-by w = outside-by wallTable w Allowed tt
 
 pub slot-by : (most i : ℕ) (v : Verdict) → ByFields v → ByFields (slotVerdict most i v)
 slot-by most i v n = either-by (leb i most) v (Refused (Field 1)) n (omega arith, omega arith)

@@ -8,6 +8,7 @@ use Rattle.level.proofs as level
 use Rattle.layout.proofs as layout
 use Rattle.course.proofs as course
 use Rattle.root.proofs as root
+use Rattle.screen.proofs as screen
 use Rattle.road.proofs
 
 within-settled : SettlesResult proofs.emission.within.Reads.Post
@@ -85,6 +86,15 @@ judge-road-settled l a = settled _ _
 judge-receiver-settled : SettlesResult proofs.judge.judge_receiver.Reads.Post
 judge-receiver-settled l a = settled _ _
 
+wall-values-settled : SettlesResult proofs.fields.wall_values.Reads.Post
+wall-values-settled l a = settled _ _
+
+wall-of-settled : SettlesResult proofs.fields.wall_of.Reads.Post
+wall-of-settled l a = settled _ _
+
+judge-wall-settled : SettlesResult proofs.judge.judge_wall.Reads.Post
+judge-wall-settled l a = settled _ _
+
 judge-slot-settled : SettlesResult proofs.judge.judge_slot.Reads.Post
 judge-slot-settled l a = settled _ _
 
@@ -153,6 +163,34 @@ second-half-settled l a = settled _ _
 
 too-long-settled : SettlesResult course.too_long.Reads.Post
 too-long-settled l a = settled _ _
+
+-- ---- noise walls
+
+counts-settled : SettlesResult screen.plan.counts.Reads.Post
+counts-settled l a = settled _ _
+
+fraction-settled : SettlesResult screen.plan.fraction.Reads.Post
+fraction-settled l a = settled _ _
+
+apart-settled : SettlesResult screen.plan.apart.Reads.Post
+apart-settled l a = settled _ _
+
+cut-settled : SettlesResult screen.section.cut.Reads.Post
+cut-settled l a = settled _ _
+
+section-screening-settled : SettlesResult screen.section.screening.Reads.Post
+section-screening-settled l a = settled _ _
+
+meet-settled : SettlesResult screen.meet.Reads.Post
+meet-settled l a = settled _ _
+
+screening-settled : SettlesResult screen.screening.Reads.Post
+screening-settled l a = settled _ _
+
+screened-settled : SettlesResult screen.screened.Reads.Post
+screened-settled l a = settled _ _
+
+-- ---- roots
 
 root-step-settled : SettlesResult root.step.Reads.Post
 root-step-settled l a = settled _ _

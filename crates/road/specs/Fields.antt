@@ -1,7 +1,7 @@
--- The fields of a source and of a receiver (METHOD 3 and 4), each once: its number, its bits in a record, its bytes in a
+-- The fields of a source, of a receiver and of a noise wall (METHOD 3 and 4), each once: its number, its bits in a record, its bytes in a
 -- slot of the store, its value, and its limits. Records, slots and verdicts are made from these tables.
 use Prim.Native.Nat.{ℕ, suc, _+_, _*_, _^_, _<_}
-use mathlib.Core.Bool.{cond}
+use mathlib.Core.Bool.{Bool, cond, _&&_}
 use mathlib.Core.List.{List, [], _∷_, _++_, map}
 use lib.ListN.{getD, replicate, length}
 use lib.Dec.{ltb, eqb}
@@ -10,12 +10,14 @@ use Rattle.course.specs.declared.Ends.{Ends}
 use Rattle.course.specs.declared.Course.{Course}
 use Rattle.course.specs.declared.Course.the-variants.{Uncut}
 use Rattle.course.specs.Course.{lengthOf}
+use Rattle.screen.specs.declared.Wall.{Wall}
+use Rattle.screen.specs.Screen.{wallOf}
 use Rattle.road.specs.declared.Traffic.{Traffic}
 use Rattle.road.specs.declared.Source.{Source}
 use Rattle.road.specs.declared.Receiver.{Receiver}
 use Rattle.road.specs.Term.{period}
 use Rattle.road.specs.Emission.{sign}
-use Rattle.road.specs.Limits.{coordinate, longest, lastLanes, fastest, steepest, lastSurface, lastReflection, lastWalls, highestWall, widestSpacing, mostVehicles, allTrucks, lowestReceiver, highestReceiver}
+use Rattle.road.specs.Limits.{coordinate, longest, lastLanes, fastest, steepest, lastSurface, lastReflection, lastWalls, highestWall, widestSpacing, mostVehicles, allTrucks, lowestReceiver, highestReceiver, highestNoiseWall}
 
 pub record Row (A : Type 0) : Type 0 where
   -- what a refusal calls the field
@@ -106,6 +108,19 @@ receiverTable =
     ∷ row 4 9 2 (λ r. r .height) lowestReceiver highestReceiver
     ∷ []
 
+-- a wall has two ends: no x of the second is allowed where it would be the first
+abbrev pub onePoint : Wall → Bool
+onePoint w = eqb (w .ends .x1) (w .ends .x2) && eqb (w .ends .y1) (w .ends .y2)
+
+abbrev pub wallTable : List (Row Wall)
+wallTable =
+    row 2 24 3 (λ w. w .ends .x1) 0 coordinate
+    ∷ row 3 24 3 (λ w. w .ends .y1) 0 coordinate
+    ∷ rowBy 4 24 3 (λ w. w .ends .x2) (λ w. cond (onePoint w) (coordinate + 1) 0) (λ w. coordinate)
+    ∷ row 5 24 3 (λ w. w .ends .y2) 0 coordinate
+    ∷ row 6 11 2 (λ w. w .height) 1 highestNoiseWall
+    ∷ []
+
 -- ---- the way back: what has the values v, in the order of the tables
 
 abbrev pub trafficOf : ℕ → ℕ → Traffic
@@ -176,6 +191,10 @@ module _ {A : Type 0} where
 -- a road that rises, between walls: all its fields are 1, wherever it runs
 abbrev pub plain : Source
 plain = sourceOf (Uncut (pieceOf [])) (replicate (length sourceTable) 1)
+
+-- a wall with two ends
+abbrev pub plainWall : Wall
+plainWall = wallOf (0 ∷ 0 ∷ 1 ∷ [])
 
 -- ---- which numbers the code can take for values
 

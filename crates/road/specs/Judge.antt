@@ -10,19 +10,23 @@ use Rattle.answer.specs.declared.Refusal.{Refusal}
 use Rattle.answer.specs.declared.Refusal.the-variants.{Field, SlowSurface, QuietTruck}
 use Rattle.course.specs.declared.Course.{Course}
 use Rattle.course.specs.declared.Course.the-variants.{Uncut, Between}
+use Rattle.screen.specs.declared.Wall.{Wall}
 use Rattle.road.specs.declared.Source.{Source}
 use Rattle.road.specs.declared.Receiver.{Receiver}
 use Rattle.road.specs.declared.Verdict.{Verdict}
 use Rattle.road.specs.declared.Verdict.the-variants.{Allowed, Refused}
 use Rattle.road.specs.Emission.{carSpeed, truckSpeed, carLevel, truckLevel}
-use Rattle.road.specs.Fields.{Row, valuesBy, leastBy, mostBy, numberAt, pieceTable, endsTable, lengthTable, sourceTable, receiverTable}
+use Rattle.road.specs.Fields.{Row, valuesBy, leastBy, mostBy, numberAt, pieceTable, endsTable, lengthTable, sourceTable, receiverTable, wallTable}
 
--- the fields in order: of a source those after its course, of a receiver from field 2 on
+-- the fields in order: of a source those after its course, of a receiver and of a wall from field 2 on
 abbrev pub sourceFields : Source → List ℕ
 sourceFields s = valuesBy sourceTable s
 
 abbrev pub receiverFields : Receiver → List ℕ
 receiverFields r = valuesBy receiverTable r
+
+abbrev pub wallFields : Wall → List ℕ
+wallFields w = valuesBy wallTable w
 
 -- ---- the verdict
 
@@ -61,6 +65,9 @@ sourceVerdict s = courseVerdict (s .course) (restVerdict s)
 
 unfoldable pub receiverVerdict : Receiver → Verdict
 receiverVerdict r = unlessOutside receiverTable r Allowed
+
+unfoldable pub wallVerdict : Wall → Verdict
+wallVerdict w = unlessOutside wallTable w Allowed
 
 -- the slot is field 1, and is judged first
 abbrev pub slotVerdict : ℕ → ℕ → Verdict → Verdict

@@ -53,3 +53,7 @@ lowestReceiver = 380
 
 abbrev pub highestReceiver : ℕ
 highestReceiver = 420
+
+-- of noise walls, from 1 on
+abbrev pub highestNoiseWall : ℕ
+highestNoiseWall = 2000

@@ -1,4 +1,4 @@
-// The fields of a source and of a receiver, a row for each, as in specs/Fields.antt: what records, slots and verdicts are made from.
+// The fields of a source, of a receiver and of a noise wall, a row for each, as in specs/Fields.antt: what records, slots and verdicts are made from.
 // Values are numbers of 64 bits in the order of the rows.
 use crate::Receiver;
 use crate::Source;
@@ -8,12 +8,14 @@ use crate::limits;
 use course::Course;
 use course::Ends;
 use course::Piece;
+use screen::Wall;
 ghost use mathlib.Core.Path.{_≡_};
 ghost use mathlib.Core.Bool.{cond};
 ghost use mathlib.Core.List.{[]};
 ghost use Prim.Native.Nat.{_+_, _^_, _≤_, _<_};
 ghost use lib.ListN.{length, getD, drop};
-ghost use Rattle.road.specs.Fields.{pieceTable, endsTable, roadTable, sourceTable, receiverTable, trafficOf, pieceOf, endsOf, sourceOf, roadOf, receiverOf, valuesBy, leastBy, mostBy, slotBitsBy, rowsBy, plain, Fit};
+ghost use Rattle.screen.specs.Screen.{wallOf};
+ghost use Rattle.road.specs.Fields.{pieceTable, endsTable, roadTable, sourceTable, receiverTable, wallTable, trafficOf, pieceOf, endsOf, sourceOf, roadOf, receiverOf, valuesBy, leastBy, mostBy, slotBitsBy, rowsBy, plain, plainWall, Fit};
 
 // How many fields the course of a source has, as a piece or as two ends.
 pub const PIECE_ROWS: usize = 3;
@@ -26,6 +28,9 @@ pub const ROAD_ROWS: usize = 9;
 pub const SOURCE_ROWS: usize = ROAD_ROWS + 6;
 
 pub const RECEIVER_ROWS: usize = 3;
+
+// And a wall.
+pub const WALL_ROWS: usize = 5;
 
 // The columns of a row: the field's number, its bits in a record, its bytes in a slot, the least and the most that it may be.
 pub(crate) const NUMBER: usize = 0;
@@ -86,7 +91,17 @@ pub const RECEIVER: [[u64; 5]; RECEIVER_ROWS] = [
     [4, 9, 2, limits::LOWEST_RECEIVER, limits::HIGHEST_RECEIVER],
 ];
 
-// The two columns of limits, of a piece, of two ends, of a receiver and of a source.
+// The rows of a wall. The limits of the second x are for ends that are not one point.
+pub const WALL: [[u64; 5]; WALL_ROWS] = [
+    // x, y of the first end, x, y of the second, height
+    [2, 24, 3, 0, limits::COORDINATE],
+    [3, 24, 3, 0, limits::COORDINATE],
+    [4, 24, 3, 0, limits::COORDINATE],
+    [5, 24, 3, 0, limits::COORDINATE],
+    [6, 11, 2, 1, limits::HIGHEST_NOISE_WALL],
+];
+
+// The two columns of limits, of a piece, of two ends, of a receiver, of a wall and of a source.
 pub(crate) const PIECE_LEAST: [u64; PIECE_ROWS] = [
     PIECE[0][LEAST],
     PIECE[1][LEAST],
@@ -119,6 +134,22 @@ pub(crate) const RECEIVER_MOST: [u64; RECEIVER_ROWS] = [
     RECEIVER[0][MOST],
     RECEIVER[1][MOST],
     RECEIVER[2][MOST],
+];
+
+const WALL_LEAST: [u64; WALL_ROWS] = [
+    WALL[0][LEAST],
+    WALL[1][LEAST],
+    WALL[2][LEAST],
+    WALL[3][LEAST],
+    WALL[4][LEAST],
+];
+
+pub(crate) const WALL_MOST: [u64; WALL_ROWS] = [
+    WALL[0][MOST],
+    WALL[1][MOST],
+    WALL[2][MOST],
+    WALL[3][MOST],
+    WALL[4][MOST],
 ];
 
 const SOURCE_LEAST: [u64; SOURCE_ROWS] = [
@@ -158,6 +189,8 @@ const SOURCE_MOST: [u64; SOURCE_ROWS] = [
 ];
 
 // The rows whose limits depend on a field before them.
+const SECOND_X: usize = 2;
+
 const GRADIENT: usize = 4;
 
 const HEIGHT: usize = 7;
@@ -190,6 +223,13 @@ pub(crate) fn receiver_rows() -> [[u64; 5]; RECEIVER_ROWS]
     ensures { λ r. ⌜ r ≡ rowsBy receiverTable (receiverOf []) ⌝ }
 {
     RECEIVER
+}
+
+// The rows of a wall, with the limits of one that has two ends.
+pub(crate) fn wall_rows() -> [[u64; 5]; WALL_ROWS]
+    ensures { λ r. ⌜ r ≡ rowsBy wallTable plainWall ⌝ }
+{
+    WALL
 }
 
 // The values of a piece.
@@ -238,6 +278,20 @@ pub fn receiver_values(r: Receiver) -> [u64; RECEIVER_ROWS]
     ensures { λ v. ⌜ v ≡ valuesBy receiverTable r ⌝ }
 {
     [r.x as u64, r.y as u64, r.height as u64]
+}
+
+// The values of a wall.
+pub fn wall_values(w: Wall) -> [u64; WALL_ROWS]
+    ensures { λ v. ⌜ v ≡ valuesBy wallTable w ⌝ }
+{
+    let e = w.ends;
+    [
+        e.x1 as u64,
+        e.y1 as u64,
+        e.x2 as u64,
+        e.y2 as u64,
+        w.height as u64,
+    ]
 }
 
 // The piece of the values at the front of v.
@@ -354,6 +408,29 @@ pub fn receiver_of(v: &[u64], at: usize) -> Receiver
     receiver_by(&v[at..])
 }
 
+// The wall of the values at the front of v.
+fn wall_by(v: &[u64]) -> Wall
+    requires { ⌜ (length wallTable ≤ length (now v)) × Fit (slotBitsBy wallTable) 0 (now v) ⌝ }
+    ensures { λ r. ⌜ r ≡ wallOf (now (v .entry)) ⌝ }
+{
+    let ends = Ends {
+        x1: v[0] as u32,
+        y1: v[1] as u32,
+        x2: v[2] as u32,
+        y2: v[3] as u32,
+    };
+    let height = v[4] as u16;
+    Wall { ends, height }
+}
+
+// The wall of the values from index at on.
+pub fn wall_of(v: &[u64], at: usize) -> Wall
+    requires { ⌜ (at + length wallTable ≤ length (now v)) × Fit (slotBitsBy wallTable) at (now v) ⌝ }
+    ensures { λ r. ⌜ r ≡ wallOf (drop at (now (v .entry))) ⌝ }
+{
+    wall_by(&v[at..])
+}
+
 // One of two numbers.
 fn either(first: bool, a: u64, b: u64) -> u64
     ensures { λ r. ⌜ r ≡ cond first a b ⌝ }
@@ -398,4 +475,19 @@ pub(crate) fn source_most(s: Source) -> [u64; SOURCE_ROWS]
     most[HEIGHT] = height;
     most[SPACING] = spacing;
     most
+}
+
+// The least that each field of a wall may be.
+pub(crate) fn wall_least(w: Wall) -> [u64; WALL_ROWS]
+    ensures { λ r. ⌜ r ≡ leastBy wallTable w ⌝ }
+{
+    let e = w.ends;
+    let second = either(
+        (e.x1 == e.x2) & (e.y1 == e.y2),
+        limits::COORDINATE + 1,
+        WALL_LEAST[SECOND_X],
+    );
+    let mut least = WALL_LEAST;
+    least[SECOND_X] = second;
+    least
 }

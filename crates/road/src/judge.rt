@@ -10,12 +10,13 @@ use answer::Refusal;
 use course::Course;
 use course::Ends;
 use course::Piece;
+use screen::Wall;
 ghost use mathlib.Core.Path.{_≡_};
 ghost use Prim.Native.Nat.{_<_};
 ghost use lib.ListN.{length};
 ghost use Rattle.level.specs.Table.{table};
-ghost use Rattle.road.specs.Fields.{pieceTable, endsTable, lengthTable, roadTable, sourceTable, receiverTable, numberAt};
-ghost use Rattle.road.specs.Judge.{unlessOutside, courseVerdict, restVerdict, sourceVerdict, receiverVerdict, slotVerdict, quietTruck};
+ghost use Rattle.road.specs.Fields.{pieceTable, endsTable, lengthTable, roadTable, sourceTable, receiverTable, wallTable, numberAt};
+ghost use Rattle.road.specs.Judge.{unlessOutside, courseVerdict, restVerdict, sourceVerdict, receiverVerdict, wallVerdict, slotVerdict, quietTruck};
 ghost use Rattle.course.specs.Course.{Mapped};
 
 // Whether the trucks are quieter than the cars.
@@ -58,12 +59,22 @@ fn ends_number(i: usize) -> u16
     row[fields::NUMBER] as u16
 }
 
-// And of a receiver.
+// Of a receiver.
 fn receiver_number(i: usize) -> u16
     requires { ⌜ i < length receiverTable ⌝ }
     ensures { λ r. ⌜ r ≡ numberAt receiverTable i ⌝ }
 {
     let rows = fields::receiver_rows();
+    let row = rows[i];
+    row[fields::NUMBER] as u16
+}
+
+// And of a wall.
+fn wall_number(i: usize) -> u16
+    requires { ⌜ i < length wallTable ⌝ }
+    ensures { λ r. ⌜ r ≡ numberAt wallTable i ⌝ }
+{
+    let rows = fields::wall_rows();
     let row = rows[i];
     row[fields::NUMBER] as u16
 }
@@ -181,6 +192,21 @@ pub fn judge_receiver(r: Receiver) -> Verdict
     let at = layout::first_outside(&least, &most, &values);
     if at < fields::RECEIVER_ROWS {
         let number = receiver_number(at);
+        return Verdict::Refused(Refusal::Field(number));
+    }
+    Verdict::Allowed
+}
+
+// Whether the fields of a wall are allowed.
+pub fn judge_wall(w: Wall) -> Verdict
+    ensures { λ v. ⌜ v ≡ wallVerdict w ⌝ }
+{
+    let values = fields::wall_values(w);
+    let least = fields::wall_least(w);
+    let most = fields::WALL_MOST;
+    let at = layout::first_outside(&least, &most, &values);
+    if at < fields::WALL_ROWS {
+        let number = wall_number(at);
         return Verdict::Refused(Refusal::Field(number));
     }
     Verdict::Allowed

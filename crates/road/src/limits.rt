@@ -42,3 +42,6 @@ pub const ALL_TRUCKS: u64 = 1000;
 pub const LOWEST_RECEIVER: u64 = 380;
 
 pub const HIGHEST_RECEIVER: u64 = 420;
+
+// Of noise walls, from 1 on.
+pub const HIGHEST_NOISE_WALL: u64 = 2000;
