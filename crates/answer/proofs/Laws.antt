@@ -7,13 +7,13 @@ use Prim.Native.Nat.{ℕ}
 use native.Mathlib.Omega.{arith}
 use Rattle.answer.specs.Table.{numberOf, placeOf}
 use Rattle.answer.specs.declared.Refusal.{Refusal}
-use Rattle.answer.specs.declared.Refusal.the-variants.{Damaged, CutShort, UnknownKind, Leftover, Field, SlowSurface, QuietTruck, Taken, Vacant, TooNear, TooFar, TooLong, TooLoud}
+use Rattle.answer.specs.declared.Refusal.the-variants.{Damaged, CutShort, UnknownKind, Leftover, Field, SlowSurface, QuietTruck, Taken, Vacant, TooNear, TooFar, TooLong, TooLoud, TwoWalls}
 
 -- the row n of the table, at a place
 abbrev pub row : ℕ → ℕ → Refusal
 row n p =
     getD (
-    Damaged ∷ Damaged ∷ CutShort ∷ UnknownKind ∷ Leftover ∷ Field p ∷ SlowSurface ∷ QuietTruck ∷ Taken ∷ Vacant ∷ TooNear p ∷ TooFar p ∷ TooLong p ∷ TooLoud p ∷ []
+    Damaged ∷ Damaged ∷ CutShort ∷ UnknownKind ∷ Leftover ∷ Field p ∷ SlowSurface ∷ QuietTruck ∷ Taken ∷ Vacant ∷ TooNear p ∷ TooFar p ∷ TooLong p ∷ TooLoud p ∷ TwoWalls p ∷ []
     ) n Damaged
 
 pub row-is : (r : Refusal) → row (numberOf r) (placeOf r) ≡ r
@@ -30,6 +30,7 @@ row-is (TooNear s) = refl
 row-is (TooFar s) = refl
 row-is (TooLong s) = refl
 row-is (TooLoud s) = refl
+row-is (TwoWalls s) = refl
 
 pub told-apart : (r s : Refusal) → numberOf r ≡ numberOf s → placeOf r ≡ placeOf s → r ≡ s
 told-apart r s n p = sym (row-is r) ∙ ap₂ row n p ∙ row-is s

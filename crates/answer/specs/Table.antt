@@ -3,7 +3,7 @@
 use Prim.Native.Nat.{ℕ, _≤_}
 use mathlib.Core.Option.{Option, none, some}
 use Rattle.answer.specs.declared.Refusal.{Refusal}
-use Rattle.answer.specs.declared.Refusal.the-variants.{Damaged, CutShort, UnknownKind, Leftover, Field, SlowSurface, QuietTruck, Taken, Vacant, TooNear, TooFar, TooLong, TooLoud}
+use Rattle.answer.specs.declared.Refusal.the-variants.{Damaged, CutShort, UnknownKind, Leftover, Field, SlowSurface, QuietTruck, Taken, Vacant, TooNear, TooFar, TooLong, TooLoud, TwoWalls}
 
 abbrev pub numberOf : Refusal → ℕ
 numberOf Damaged = 1
@@ -19,6 +19,7 @@ numberOf (TooNear s) = 10
 numberOf (TooFar s) = 11
 numberOf (TooLong s) = 12
 numberOf (TooLoud s) = 13
+numberOf (TwoWalls s) = 14
 
 abbrev pub placeOf : Refusal → ℕ
 placeOf Damaged = 0
@@ -34,6 +35,7 @@ placeOf (TooNear s) = s
 placeOf (TooFar s) = s
 placeOf (TooLong s) = s
 placeOf (TooLoud s) = s
+placeOf (TwoWalls s) = s
 
 -- ---- of an answer: each kind of answer says which refusal it holds, if any
 

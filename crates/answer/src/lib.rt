@@ -22,11 +22,12 @@ pub enum Refusal {
     Taken,
     // the slot is not in use
     Vacant,
-    // the pair with this slot is too near, too far, too long for its distance, or too loud
+    // the pair with this slot is too near, too far, too long for its distance, too loud, or has two walls between it
     TooNear(u16),
     TooFar(u16),
     TooLong(u16),
     TooLoud(u16),
+    TwoWalls(u16),
 }
 
 // The number of a refusal.
@@ -47,6 +48,7 @@ pub fn number(r: Refusal) -> u8
         Refusal::TooFar(_) => 11,
         Refusal::TooLong(_) => 12,
         Refusal::TooLoud(_) => 13,
+        Refusal::TwoWalls(_) => 14,
     }
 }
 
@@ -68,5 +70,6 @@ pub fn place(r: Refusal) -> u16
         Refusal::TooFar(slot) => slot,
         Refusal::TooLong(slot) => slot,
         Refusal::TooLoud(slot) => slot,
+        Refusal::TwoWalls(slot) => slot,
     }
 }

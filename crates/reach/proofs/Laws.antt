@@ -1,7 +1,7 @@
 -- What the halving of a road rests on: the bounds of its halves, that a point is no farther than the squared distances hold, and that the
 -- pair of a long road is that of its two halves. Assumes nothing.
 use mathlib.Core.Path.{_≡_, ap, _∙_}
-use mathlib.Core.Bool.{true, false}
+use mathlib.Core.Bool.{Bool, true, false}
 use mathlib.Core.List.{List, [], _∷_}
 use Prim.Native.Nat.{ℕ, _+_, _-_, _^_, _≤_, _<_}
 use native.Mathlib.Omega.{arith}
@@ -46,13 +46,13 @@ module _ (r : Receiver) (e : Ends) where
     pub second-halved : Halved e (secondHalf e)
     second-halved = record { mapped = second-mapped e m; some = second-some e (long-above (far r) e l); falls = second-falls (far r) e l }
 
-  module _ (f : Piece → ℕ → ℕ) where
+  module _ (f : Piece → ℕ → ℕ) (two : Piece → Bool) where
     pub over-cut : long (far r) e ≡ true
-        → pairOver f r (piecesBetween (far r) e)
-        ≡ joined (pairOver f r (piecesBetween (far r) (firstHalf e))) (pairOver f r (piecesBetween (far r) (secondHalf e)))
+        → pairOver f two r (piecesBetween (far r) e)
+        ≡ joined (pairOver f two r (piecesBetween (far r) (firstHalf e))) (pairOver f two r (piecesBetween (far r) (secondHalf e)))
     over-cut l =
-        ap (pairOver f r) (pieces-cut (far r) e l)
-        ∙ join-is f r (piecesBetween (far r) (firstHalf e)) (piecesBetween (far r) (secondHalf e))
+        ap (pairOver f two r) (pieces-cut (far r) e l)
+        ∙ join-is f two r (piecesBetween (far r) (firstHalf e)) (piecesBetween (far r) (secondHalf e))
 
-    pub over-uncut : long (far r) e ≡ false → pairOver f r (piecesBetween (far r) e) ≡ pairOver f r (onePiece e ∷ [])
-    over-uncut l = ap (pairOver f r) (pieces-uncut (far r) e l)
+    pub over-uncut : long (far r) e ≡ false → pairOver f two r (piecesBetween (far r) e) ≡ pairOver f two r (onePiece e ∷ [])
+    over-uncut l = ap (pairOver f two r) (pieces-uncut (far r) e l)

@@ -1,4 +1,4 @@
-// What of a road reaches a point (VBUS sections 3.4, 3.6, 3.7, 3.10): a pair's three shares, or why it is barred.
+// What of a road reaches a point (VBUS sections 3.4, 3.6, 3.7, 3.9, 3.10): a pair's three shares, or why it is barred.
 // The terms are those of road's specs/Reach.antt; what the road sends out has been worked out before.
 use course::Course;
 use course::Ends;
@@ -12,19 +12,22 @@ use road::Shares;
 use road::Source;
 use road::Term;
 use road::Voice;
+use screen::Loss;
+use screen::Point;
 ghost use mathlib.Core.Path.{_≡_};
 ghost use Prim.Native.Nat.{_+_, _-_, _*_, _<_, _≤_};
 ghost use Rattle.level.specs.Table.{table};
+ghost use Rattle.screen.specs.Screen.{wallsOf, Laid};
 ghost use Rattle.road.specs.declared.Verdict.the-variants.{Allowed};
 ghost use Rattle.road.specs.Term.{_⊕_};
 ghost use mathlib.Core.List.{[], _∷_};
 ghost use Rattle.road.specs.declared.Pair.the-variants.{Heard};
 ghost use Rattle.course.specs.Course.{square, lengthOf, onePiece, piecesBetween, Mapped};
 ghost use Rattle.road.specs.Limits.{coordinate, longest};
-ghost use Rattle.road.specs.Reach.{sourceHeight, planSquare, spaceSquare, lengthTerm, distanceTerm, groundTerm, weatherTerm, unlessLoud, pairOver, pairOf, farthest};
+ghost use Rattle.road.specs.Reach.{sourceHeight, planSquare, spaceSquare, lengthTerm, distanceTerm, groundTerm, obstacleTerm, weatherTerm, unlessLoud, pairOver, twoWalls, pairOf, farthest};
 ghost use Rattle.road.specs.Pairs.{Mild};
 ghost use Rattle.road.specs.Judge.{sourceVerdict, receiverVerdict};
-ghost use Rattle.road.specs.Inner.{sentOf, voicedPart, hearOf, shareBy, addedShares, afterLoud, afterBar, joined, Modest, Moderate};
+ghost use Rattle.road.specs.Inner.{sentOf, voicedPart, hearOf, shareBy, addedShares, rank, earlier, joined, Modest, Moderate};
 
 // How high above the road the source is, in cm.
 const SOURCE_HEIGHT: u16 = 50;
@@ -71,12 +74,24 @@ pub fn ground(h: u64, r: u64) -> u32
     (480 - q) as u32
 }
 
-// Equations 10 to 12: distance, air and ground, by the squared distance and its root.
-pub fn way(steps: &[u32; 1000], q: u64, r: u64, h: u64) -> Term
-    requires { ⌜ (now steps ≡ table) × (1 ≤ q) × (q ≤ farthest) × (h ≤ 1000) × (1 ≤ r) × (r ≤ 1000000) ⌝ }
-    ensures { λ t. ⌜ t ≡ distanceTerm q r ⊕ groundTerm h r ⌝ }
+// What is taken off on the way: the larger of what walls take off and the ground.
+fn obstacle(h: u64, r: u64, screening: u32) -> u32
+    requires { ⌜ (h ≤ 1000) × (1 ≤ r) × (r ≤ 1000000) ⌝ }
+    ensures { λ d. ⌜ d ≡ obstacleTerm h r screening .down ⌝ }
 {
-    let down = level::lv(steps, q) + (r / 200) as u32 + ground(h, r);
+    let ground = ground(h, r);
+    if screening < ground {
+        return ground;
+    }
+    screening
+}
+
+// Equations 10 to 12 and 15: distance, air, and ground or walls, by the squared distance and its root.
+pub fn way(steps: &[u32; 1000], q: u64, r: u64, h: u64, screening: u32) -> Term
+    requires { ⌜ (now steps ≡ table) × (1 ≤ q) × (q ≤ farthest) × (h ≤ 1000) × (1 ≤ r) × (r ≤ 1000000) × (screening ≤ 6000) ⌝ }
+    ensures { λ t. ⌜ t ≡ distanceTerm q r ⊕ obstacleTerm h r screening ⌝ }
+{
+    let down = level::lv(steps, q) + (r / 200) as u32 + obstacle(h, r, screening);
     Term {
         up: 5120,
         down: down,
@@ -129,16 +144,24 @@ fn share(steps: &[u32; 1000], v: Voice, way: Term, c: u64, h: u64, near: u64) ->
     }
 }
 
-// The three shares of a piece of road by its length's term and squared distances that are in range, or too loud.
-fn hear(steps: &[u32; 1000], voices: [Voice; 3], length: Term, q0: u64, q: u64, h: u64) -> Pair
+// The three shares of a piece of road by its length's term, squared distances that are in range and what walls take off; or too loud.
+fn hear(
+    steps: &[u32; 1000],
+    voices: [Voice; 3],
+    length: Term,
+    q0: u64,
+    q: u64,
+    h: u64,
+    screening: u32,
+) -> Pair
     requires { ⌜ (now steps ≡ table) × Moderate voices × (1 ≤ q0) × (q0 ≤ q) × (q ≤ farthest) × (h ≤ 1000) ⌝ }
-    requires { ⌜ (length .up ≤ 20000) × (length .down ≤ 20000) ⌝ }
-    ensures { λ p. ⌜ p ≡ hearOf voices length q0 q h ⌝ }
+    requires { ⌜ (length .up ≤ 20000) × (length .down ≤ 20000) × (screening ≤ 6000) ⌝ }
+    ensures { λ p. ⌜ p ≡ hearOf voices length q0 q h screening ⌝ }
 {
     let lines = root::last_lines(q0, q);
     let near = lines.near.root;
     let far = lines.far.root;
-    let over = way(steps, q, far, h);
+    let over = way(steps, q, far, h, screening);
     let up = length.up + over.up;
     let down = length.down + over.down;
     let way = Term { up: up, down: down };
@@ -156,10 +179,10 @@ fn hear(steps: &[u32; 1000], voices: [Voice; 3], length: Term, q0: u64, q: u64, 
 }
 
 // A piece that is not cut, all of what is sent: the three shares, or the first bar.
-fn alone(steps: &[u32; 1000], sent: Sent, r: Receiver) -> Pair
-    requires { ⌜ (now steps ≡ table) × Moderate (sent .voices) × (receiverVerdict r ≡ Allowed) × (sent .length ≡ lengthTerm (sent .whole .length)) ⌝ }
+fn alone(steps: &[u32; 1000], walls: &[u32], sent: Sent, r: Receiver) -> Pair
+    requires { ⌜ (now steps ≡ table) × Moderate (sent .voices) × (receiverVerdict r ≡ Allowed) × (sent .length ≡ lengthTerm (sent .whole .length)) × Laid (now walls) ⌝ }
     requires { ⌜ (sent .whole .x ≤ coordinate) × (sent .whole .y ≤ coordinate) × (1 ≤ sent .whole .length) × (sent .whole .length ≤ longest) ⌝ }
-    ensures { λ a. ⌜ a ≡ pairOver (shareBy (sent .voices) r) r (sent .whole ∷ []) ⌝ }
+    ensures { λ a. ⌜ a ≡ pairOver (shareBy (wallsOf (now (walls .entry))) (sent .voices) r) (twoWalls (wallsOf (now (walls .entry))) r) r (sent .whole ∷ []) ⌝ }
 {
     let p = sent.whole;
     let q0 = plan(p, r);
@@ -175,9 +198,16 @@ fn alone(steps: &[u32; 1000], sent: Sent, r: Receiver) -> Pair
     if q < 4 * square {
         return Pair::Barred(Bar::Long);
     }
-    let h = (r.height + SOURCE_HEIGHT) as u64;
-    let voices = sent.voices;
-    hear(steps, voices, sent.length, q0, q, h)
+    let middle = Point { x: p.x, y: p.y };
+    let point = Point { x: r.x, y: r.y };
+    match screen::screened(steps, middle, point, r.height, q0, q, walls) {
+        Loss::Twice => Pair::Barred(Bar::Walls),
+        Loss::Off(screening) => {
+            let h = (r.height + SOURCE_HEIGHT) as u64;
+            let voices = sent.voices;
+            hear(steps, voices, sent.length, q0, q, h, screening)
+        }
+    }
 }
 
 // The shares of two parts of a road added up, or too loud.
@@ -198,26 +228,27 @@ fn added(x: Shares, y: Shares) -> Pair
     })
 }
 
-// What the second part makes of a road whose first part is too loud.
-fn after_loud(b: Pair) -> Pair
-    ensures { λ p. ⌜ p ≡ afterLoud b ⌝ }
+// The order of the bars of a pair: those of a place, walls, loudness.
+fn rank(bar: Bar) -> u8
+    ensures { λ n. ⌜ n ≡ rank bar ⌝ }
 {
-    match b {
-        Pair::Heard(_) => Pair::Barred(Bar::Loud),
-        Pair::Barred(why) => Pair::Barred(why),
+    match bar {
+        Bar::Near => 0,
+        Bar::Far => 0,
+        Bar::Long => 0,
+        Bar::Walls => 1,
+        Bar::Loud => 2,
     }
 }
 
-// And of one whose first part is barred.
-fn after_bar(why: Bar, b: Pair) -> Pair
-    ensures { λ p. ⌜ p ≡ afterBar why b ⌝ }
+// Of the bars of two parts the one that comes first.
+fn earlier(a: Bar, b: Bar) -> Bar
+    ensures { λ r. ⌜ r ≡ earlier a b ⌝ }
 {
-    match why {
-        Bar::Near => Pair::Barred(Bar::Near),
-        Bar::Far => Pair::Barred(Bar::Far),
-        Bar::Long => Pair::Barred(Bar::Long),
-        Bar::Loud => after_loud(b),
+    if rank(a) <= rank(b) {
+        return a;
     }
+    b
 }
 
 // Two parts of a road together.
@@ -226,7 +257,10 @@ fn join(a: Pair, b: Pair) -> Pair
     ensures { λ p. ⌜ p ≡ joined a b ⌝ }
 {
     match a {
-        Pair::Barred(why) => after_bar(why, b),
+        Pair::Barred(first) => match b {
+            Pair::Barred(second) => Pair::Barred(earlier(first, second)),
+            Pair::Heard(_) => Pair::Barred(first),
+        },
         Pair::Heard(x) => match b {
             Pair::Barred(why) => Pair::Barred(why),
             Pair::Heard(y) => added(x, y),
@@ -236,10 +270,17 @@ fn join(a: Pair, b: Pair) -> Pair
 
 // A road between two ends, all of which is the piece: as long as it is too long for the point it is halved, and each half is treated the
 // same way.
-fn along(steps: &[u32; 1000], voices: [Voice; 3], whole: Piece, e: Ends, r: Receiver) -> Pair
-    requires { ⌜ (now steps ≡ table) × Moderate voices × (receiverVerdict r ≡ Allowed) ⌝ }
+fn along(
+    steps: &[u32; 1000],
+    walls: &[u32],
+    voices: [Voice; 3],
+    whole: Piece,
+    e: Ends,
+    r: Receiver,
+) -> Pair
+    requires { ⌜ (now steps ≡ table) × Moderate voices × (receiverVerdict r ≡ Allowed) × Laid (now walls) ⌝ }
     requires { ⌜ Mapped e × (whole ≡ onePiece e) × (1 ≤ lengthOf e) × (lengthOf e ≤ longest) ⌝ }
-    ensures { λ a. ⌜ a ≡ pairOver (shareBy voices r) r (piecesBetween (λ p. spaceSquare p r) e) ⌝ }
+    ensures { λ a. ⌜ a ≡ pairOver (shareBy (wallsOf (now (walls .entry))) voices r) (twoWalls (wallsOf (now (walls .entry))) r) r (piecesBetween (λ p. spaceSquare p r) e) ⌝ }
 {
     let q = space(plan(whole, r), r.height);
     if course::too_long(whole.length, q) {
@@ -247,6 +288,7 @@ fn along(steps: &[u32; 1000], voices: [Voice; 3], whole: Piece, e: Ends, r: Rece
         let second = course::second_half(e);
         let a = along(
             steps,
+            walls,
             voices,
             course::whole(first, course::length(first)),
             first,
@@ -254,6 +296,7 @@ fn along(steps: &[u32; 1000], voices: [Voice; 3], whole: Piece, e: Ends, r: Rece
         );
         let b = along(
             steps,
+            walls,
             voices,
             course::whole(second, course::length(second)),
             second,
@@ -264,6 +307,7 @@ fn along(steps: &[u32; 1000], voices: [Voice; 3], whole: Piece, e: Ends, r: Rece
     let length = road::emission::length(steps, whole.length);
     alone(
         steps,
+        walls,
         Sent {
             voices,
             whole,
@@ -273,18 +317,18 @@ fn along(steps: &[u32; 1000], voices: [Voice; 3], whole: Piece, e: Ends, r: Rece
     )
 }
 
-// A source and a receiver: the three shares, or the first bar.
-pub fn pair(steps: &[u32; 1000], s: Source, sent: Sent, r: Receiver) -> Pair
-    requires { ⌜ (now steps ≡ table) × (sourceVerdict s ≡ Allowed) × (sent ≡ sentOf s) × (receiverVerdict r ≡ Allowed) ⌝ }
-    ensures { λ p. ⌜ p ≡ pairOf s r ⌝ }
+// A source and a receiver among walls, which are lent as numbers: the three shares, or the first bar.
+pub fn pair(steps: &[u32; 1000], walls: &[u32], s: Source, sent: Sent, r: Receiver) -> Pair
+    requires { ⌜ (now steps ≡ table) × (sourceVerdict s ≡ Allowed) × (sent ≡ sentOf s) × (receiverVerdict r ≡ Allowed) × Laid (now walls) ⌝ }
+    ensures { λ p. ⌜ p ≡ pairOf (wallsOf (now (walls .entry))) s r ⌝ }
 {
     let course = s.course;
     match course {
-        Course::Uncut(_) => alone(steps, sent, r),
+        Course::Uncut(_) => alone(steps, walls, sent, r),
         Course::Between(e) => {
             let voices = sent.voices;
             let whole = sent.whole;
-            along(steps, voices, whole, e, r)
+            along(steps, walls, voices, whole, e, r)
         }
     }
 }

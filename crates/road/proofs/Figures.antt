@@ -11,6 +11,10 @@ use borrow.Author.Tests.{eqb-true, le-ltb}
 use Rattle.level.specs.Table.{table, firstQuarter, secondQuarter, thirdQuarter, fourthQuarter}
 use Rattle.level.specs.Level.{energyOf, levelOf, upTo, decades}
 use Rattle.level.specs.Figures.{Figure, right, levels}
+use Rattle.screen.specs.Plan.{around, fractionOf}
+use Rattle.screen.specs.Section.{sectionOf, hD, gamma, lift, z, Dz}
+use Rattle.screen.specs.Screen.{between, metOf, lossOf}
+use Rattle.screen.specs.Figures.{screens}
 use Rattle.road.specs.declared.Term.{Term}
 use Rattle.road.specs.declared.Shares.{Shares}
 use Rattle.road.specs.declared.Pair.the-variants.{Heard}
@@ -18,12 +22,12 @@ use Rattle.road.specs.declared.Verdict.the-variants.{Allowed}
 use Rattle.road.specs.Judge.{restVerdict, sourceVerdict, receiverVerdict}
 use Rattle.root.specs.Root.{rootOf, rooted}
 use Rattle.road.specs.Emission.{trafficTerm, carLevel, truckLevel, speedTerm, surfaceTerm, gradientTerm, reflectionTerm}
-use Rattle.road.specs.Reach.{planSquare, spaceSquare, lengthTerm, distanceTerm, groundTerm, wallsTerm, weatherTerm, shareLevel, energyShare, tooLoud, shareOf, loudIn, sharesOf, pairOf, loudest}
+use Rattle.road.specs.Reach.{planSquare, spaceSquare, lengthTerm, distanceTerm, groundTerm, screenBetween, twoWalls, obstacleTerm, wallsTerm, weatherTerm, shareLevel, energyShare, tooLoud, shareOf, loudIn, sharesOf, pairOf, loudest}
 use Rattle.road.specs.Figures.{piece, road, home, roads, figures}
 use Rattle.road.proofs.Pairs.{pair-heard}
 
 pub figures-right : T (right figures)
-unfolding right figures levels roads table firstQuarter secondQuarter thirdQuarter fourthQuarter energyOf levelOf upTo decades rootOf rooted trafficTerm carLevel truckLevel speedTerm surfaceTerm gradientTerm reflectionTerm planSquare spaceSquare lengthTerm distanceTerm groundTerm wallsTerm weatherTerm shareLevel
+unfolding right figures levels roads screens table firstQuarter secondQuarter thirdQuarter fourthQuarter energyOf levelOf upTo decades rootOf rooted trafficTerm carLevel truckLevel speedTerm surfaceTerm gradientTerm reflectionTerm planSquare spaceSquare lengthTerm distanceTerm groundTerm screenBetween lossOf metOf between obstacleTerm wallsTerm weatherTerm shareLevel around fractionOf sectionOf hD gamma lift z Dz
 figures-right = tt
 
 -- ---- a figure by its place in the table
@@ -44,7 +48,7 @@ figure (f ∷ l) i t = go (eqb (f .defined) (f .onPaper)) refl t (figure l) i
     go false e t ih i = absurd t
 
 abbrev level : ℕ → Term
-level period = shareLevel (road 102500) (piece 102500) home period
+level period = shareLevel [] (road 102500) (piece 102500) home period
 
 abbrev above : Term → ℕ
 above t = t .up - t .down
@@ -85,11 +89,11 @@ home-allowed = refl
 abbrev near-shares : Shares
 near-shares = record { day = energyOf 6028; evening = energyOf 6028; night = energyOf 5028 }
 
-quiet : (loudIn (road 102500) (piece 102500) home 0 || loudIn (road 102500) (piece 102500) home 1 || loudIn (road 102500) (piece 102500) home 2) ≡ false
+quiet : (loudIn [] (road 102500) (piece 102500) home 0 || loudIn [] (road 102500) (piece 102500) home 1 || loudIn [] (road 102500) (piece 102500) home 2) ≡ false
 unfolding loudIn
 quiet = rw (soft (level 0) 6028 day (omega arith), soft (level 1) 6028 evening (omega arith), soft (level 2) 5028 night (omega arith))
 
-shares-are : sharesOf (road 102500) (piece 102500) home ≡ near-shares
+shares-are : sharesOf [] (road 102500) (piece 102500) home ≡ near-shares
 unfolding sharesOf shareOf
 shares-are = λ i. record { day = energy (level 0) 6027 day i; evening = energy (level 1) 6027 evening i; night = energy (level 2) 5027 night i }
 
@@ -97,7 +101,11 @@ apart-is : spaceSquare (piece 102500) home ≡ 6372500
 unfolding spaceSquare planSquare
 apart-is = refl
 
-pub near-pair : pairOf (road 102500) home ≡ Heard near-shares
+no-walls : twoWalls [] home (piece 102500) ≡ false
+unfolding screenBetween lossOf metOf between
+no-walls = refl
+
+pub near-pair : pairOf [] (road 102500) home ≡ Heard near-shares
 near-pair =
-    pair-heard (road 102500) (piece 102500) home refl (omega (arith, apart-is)) (omega (arith, apart-is)) (omega (arith, apart-is)) quiet
+    pair-heard [] (road 102500) (piece 102500) home refl (omega (arith, apart-is)) (omega (arith, apart-is)) (omega (arith, apart-is)) no-walls quiet
     ∙ (λ i. Heard (shares-are i))

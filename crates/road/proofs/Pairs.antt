@@ -3,39 +3,46 @@
 use mathlib.Core.Path.{_≡_, refl, sym, ap, _∙_, subst}
 use mathlib.Core.Logic.{_≢_}
 use mathlib.Core.Bool.{Bool, true, false, cond, _||_}
-use mathlib.Core.List.{List, [], _∷_, _++_}
+use mathlib.Core.List.{List, [], _∷_, _++_, List·Permᴰ}
 use mathlib.Core.Option.{Option, none, some}
-use Prim.Native.Nat.{ℕ, zero, suc, _+_, _-_, _*_, _/_, _^_, _≤_, _<_}
+use Prim.Native.Nat.{ℕ, zero, suc, _+_, _-_, _*_, _/_, _^_, _≤_, _<_, max}
 use native.Mathlib.Nat.{sub-le, mul-comm, mul-le-mul-left, div-le-of-le-mul, add-assoc, add-zero}
 use native.Mathlib.Decide.{decLe}
 use native.Mathlib.Omega.{arith}
 use lib.ListN.{getD}
 use lib.Dec.{leb, ltb, eqb}
-use borrow.Author.Tests.{lt-ltb, le-ltb, ltb-true, ltb-false}
+use borrow.Author.Tests.{lt-ltb, le-ltb, le-leb, lt-leb, ltb-true, ltb-false}
 use Rattle.level.specs.Level.{energyOf}
 use Rattle.level.proofs.Laws.{energy-rises, energy-rising, energy-decade}
+use Rattle.root.specs.Root.{rootOf}
 use Rattle.course.specs.declared.Piece.{Piece}
 use Rattle.course.specs.declared.Ends.{Ends}
 use Rattle.course.specs.declared.Course.{Course}
 use Rattle.course.specs.declared.Course.the-variants.{Uncut, Between}
 use Rattle.course.specs.Course.{square, piecesBetween, Fits, Every}
 use Rattle.course.proofs.Rule.{of-courses}
+use Rattle.screen.specs.declared.Wall.{Wall}
+use Rattle.screen.specs.declared.Loss.{Loss}
+use Rattle.screen.specs.declared.Loss.the-variants.{Off, Twice}
+use Rattle.screen.specs.Plan.{point}
+use Rattle.screen.specs.Screen.{isTwice, takenOff, lossBy, lossOf}
+use Rattle.screen.proofs.Lists.{met-any-order}
 use Rattle.road.specs.declared.Term.{Term}
 use Rattle.road.specs.declared.Source.{Source}
 use Rattle.road.specs.declared.Receiver.{Receiver}
 use Rattle.road.specs.declared.Voice.{Voice}
 use Rattle.road.specs.declared.Shares.{Shares}
 use Rattle.road.specs.declared.Bar.{Bar}
-use Rattle.road.specs.declared.Bar.the-variants.{Near, Far, Long, Loud}
+use Rattle.road.specs.declared.Bar.the-variants.{Near, Far, Long, Loud, Walls}
 use Rattle.road.specs.declared.Pair.{Pair}
 use Rattle.road.specs.declared.Pair.the-variants.{Heard, Barred}
 use Rattle.road.specs.declared.Part.{Part}
 use Rattle.road.specs.Term.{_⊕_, period}
 use Rattle.road.specs.Emission.{emissionLevel}
-use Rattle.road.specs.Reach.{planSquare, spaceSquare, lengthTerm, distanceTerm, groundTerm, wallsTerm, weatherTerm, rayHeight, shareLevel, energyShare, tooLoud, shareOf, loudIn, sharesOf, sumOf, sharesOver, barOf, firstOr, firstBar, unlessLoud, unlessBarred, pairOver, pairOf, piecesFor, pieceAlone, nearest, farthest, loudest, Promises}
+use Rattle.road.specs.Reach.{planSquare, spaceSquare, lengthTerm, distanceTerm, groundTerm, screenBetween, obstacleTerm, wallsTerm, weatherTerm, weatherOf, rayHeight, shareLevel, energyShare, tooLoud, shareOf, loudIn, sharesOf, sumOf, sharesOver, barOf, firstOr, firstBar, anyOf, unlessWalls, unlessLoud, unlessBarred, pairOver, twoWalls, pairOf, piecesFor, pieceAlone, nearest, farthest, loudest, Promises}
 use Rattle.road.specs.Pairs.{Pairing, mostShare, shareIn, Bounded}
 use Rattle.road.specs.Limits.{longest}
-use Rattle.road.specs.Inner.{silent, voiceOf, voicesOf, voicedPart, wayOf, partIn, pairBy, hearOf, voicedShare, shareBy, addedShares, afterLoud, afterBar, joined}
+use Rattle.road.specs.Inner.{silent, voiceOf, voicesOf, voicedPart, wayOf, partIn, pairBy, hearOf, voicedShare, wayFor, shareBy, addedShares, rank, earlier, joined}
 use Rattle.road.proofs.Bounds.{times, lv-small}
 use Rattle.road.proofs.Sums.{term-eq, Small}
 
@@ -45,12 +52,17 @@ pub ground-most : (h r : ℕ) → groundTerm h r .down ≤ 480
 unfolding groundTerm
 ground-most h r = sub-le 480 _
 
-pub small-way : (q r h : ℕ) → 1 ≤ q → q ≤ farthest → r ≤ 1000000 → Small 50000 (distanceTerm q r ⊕ groundTerm h r)
-unfolding distanceTerm groundTerm
-small-way q r h a b d = record {
-  up = omega arith;
-  down = omega (arith, lv-small q a (omega arith), sub-le 480 (h * (1700 * r + 3000000) / square r));
-}
+-- the larger of the two
+larger : (m n k : ℕ) → m ≤ k → n ≤ k → max m n ≤ k
+larger m n k h l = omega arith
+
+pub obstacle-most : (h r d : ℕ) → d ≤ 6000 → obstacleTerm h r d .down ≤ 6000
+unfolding obstacleTerm
+obstacle-most h r d l = larger d (groundTerm h r .down) 6000 l (omega (arith, ground-most h r))
+
+pub small-way : (q r h d : ℕ) → 1 ≤ q → q ≤ farthest → r ≤ 1000000 → d ≤ 6000 → Small 50000 (distanceTerm q r ⊕ obstacleTerm h r d)
+unfolding distanceTerm obstacleTerm
+small-way q r h d a b e l = record { up = omega arith; down = omega (arith, lv-small q a (omega arith), obstacle-most h r d l) }
 
 pub weather-most : (c h r : ℕ) → weatherTerm c h r .down ≤ c
 unfolding weatherTerm
@@ -132,53 +144,54 @@ pair-by-is x y z = go (ltb mostShare x) (ltb mostShare y) (ltb mostShare z)
     go false false false = refl
 
 -- what is heard of the piece p by the voices
-pub hear-is : (vs : List Voice) (p : Piece) (r : Receiver)
-    → hearOf vs (lengthTerm (p .length)) (planSquare p r) (spaceSquare p r) (rayHeight r) ≡ unlessLoud (sharesOver (shareBy vs r) (p ∷ []))
+abbrev hearFor : List Wall → List Voice → Piece → Receiver → Pair
+hearFor ws vs p r = hearOf vs (lengthTerm (p .length)) (planSquare p r) (spaceSquare p r) (rayHeight r) (takenOff (screenBetween ws p r))
+
+hear-is : (ws : List Wall) (vs : List Voice) (p : Piece) (r : Receiver) → hearFor ws vs p r ≡ unlessLoud (sharesOver (shareBy ws vs r) (p ∷ []))
 unfolding hearOf shareBy
-hear-is vs p r =
+hear-is ws vs p r =
     (λ j. pairBy (part-is (getD vs 0 silent) (way 0) j) (part-is (getD vs 1 silent) (way 1) j) (part-is (getD vs 2 silent) (way 2) j))
     ∙ pair-by-is (share 0) (share 1) (share 2)
     ∙ (λ j. unlessLoud (record { day = sym (add-zero (share 0)) j; evening = sym (add-zero (share 1)) j; night = sym (add-zero (share 2)) j }))
   where
     way : ℕ → Term
-    way i = wayOf (lengthTerm (p .length)) (planSquare p r) (spaceSquare p r) (rayHeight r) i
+    way i = wayFor ws r p i
 
     share : ℕ → ℕ
     share i = voicedShare (getD vs i silent) (way i)
 
-level-is : (s : Source) (p : Piece) (r : Receiver) (i : ℕ)
-    → emissionLevel s i ⊕ wallsTerm (s .walls) (s .height) (s .spacing) ⊕ wayOf (lengthTerm (p .length)) (planSquare p r) (spaceSquare p r) (rayHeight r) i
-    ≡ shareLevel s p r i
+level-is : (ws : List Wall) (s : Source) (p : Piece) (r : Receiver) (i : ℕ)
+    → emissionLevel s i ⊕ wallsTerm (s .walls) (s .height) (s .spacing) ⊕ wayFor ws r p i ≡ shareLevel ws s p r i
 unfolding shareLevel
-level-is s p r i = same (emissionLevel s i) (lengthTerm (p .length)) _ _ _ _
+level-is ws s p r i = same (emissionLevel s i) (lengthTerm (p .length)) _ _ _ _
   where
     same : (e l w d g m : Term) → e ⊕ w ⊕ (l ⊕ (d ⊕ g) ⊕ m) ≡ e ⊕ l ⊕ d ⊕ g ⊕ w ⊕ m
     same e l w d g m = term-eq _ _ (omega arith) (omega arith)
 
 -- the share by a voice is that of the source
-voiced-is : (s : Source) (p : Piece) (r : Receiver) (i : ℕ)
-    → voicedShare (voiceOf s i) (wayOf (lengthTerm (p .length)) (planSquare p r) (spaceSquare p r) (rayHeight r) i) ≡ shareOf s p r i
+voiced-is : (ws : List Wall) (s : Source) (p : Piece) (r : Receiver) (i : ℕ) → voicedShare (voiceOf s i) (wayFor ws r p i) ≡ shareOf ws s p r i
 unfolding voiceOf shareOf
-voiced-is s p r i = go (eqb (period s i .m) 0)
+voiced-is ws s p r i = go (eqb (period s i .m) 0)
   where
     t : Term
-    t = wayOf (lengthTerm (p .length)) (planSquare p r) (spaceSquare p r) (rayHeight r) i
+    t = wayFor ws r p i
 
     sent : Voice
     sent = record { sounds = true; level = emissionLevel s i ⊕ wallsTerm (s .walls) (s .height) (s .spacing) }
 
-    go : (b : Bool) → voicedShare (cond b silent sent) t ≡ cond b 0 (energyShare (shareLevel s p r i))
+    go : (b : Bool) → voicedShare (cond b silent sent) t ≡ cond b 0 (energyShare (shareLevel ws s p r i))
     go true = refl
-    go false = ap energyShare (level-is s p r i)
+    go false = ap energyShare (level-is ws s p r i)
 
 -- so are all of them, of any pieces
-pub shares-by : (s : Source) (r : Receiver) (ps : List Piece) → sharesOver (shareBy (voicesOf s) r) ps ≡ sharesOver (λ p i. shareOf s p r i) ps
+pub shares-by : (ws : List Wall) (s : Source) (r : Receiver) (ps : List Piece)
+    → sharesOver (shareBy ws (voicesOf s) r) ps ≡ sharesOver (λ p i. shareOf ws s p r i) ps
 unfolding shareBy voicesOf
-shares-by s r ps = λ j.
+shares-by ws s r ps = λ j.
     record {
-      day = sumOf (λ p. voiced-is s p r 0 j) ps;
-      evening = sumOf (λ p. voiced-is s p r 1 j) ps;
-      night = sumOf (λ p. voiced-is s p r 2 j) ps;
+      day = sumOf (λ p. voiced-is ws s p r 0 j) ps;
+      evening = sumOf (λ p. voiced-is ws s p r 1 j) ps;
+      night = sumOf (λ p. voiced-is ws s p r 2 j) ps;
     }
 
 -- ---- what bars a piece, case by case
@@ -207,12 +220,25 @@ module _ (p : Piece) (r : Receiver) where
       rw (le-ltb (spaceSquare p r) nearest a, le-ltb farthest (spaceSquare p r) b, le-ltb (spaceSquare p r) (4 * square (p .length)) h, barOf)
 
   -- and so of that piece by itself
-  pub one-barred : (f : Piece → ℕ → ℕ) (b : Bar) → barOf p r ≡ some b → pairOver f r (p ∷ []) ≡ Barred b
-  one-barred f b e = ap (λ (o : Option Bar). unlessBarred (firstOr o none) (unlessLoud (sharesOver f (p ∷ [])))) e
+  pub one-barred : (f : Piece → ℕ → ℕ) (two : Piece → Bool) (b : Bar) → barOf p r ≡ some b → pairOver f two r (p ∷ []) ≡ Barred b
+  one-barred f two b e = ap (λ (o : Option Bar). unlessBarred (firstOr o none) (unlessWalls (anyOf two (p ∷ [])) (unlessLoud (sharesOver f (p ∷ []))))) e
 
-  pub one-heard : (vs : List Voice) → barOf p r ≡ none
-      → pairOver (shareBy vs r) r (p ∷ []) ≡ hearOf vs (lengthTerm (p .length)) (planSquare p r) (spaceSquare p r) (rayHeight r)
-  one-heard vs e = ap (λ (o : Option Bar). unlessBarred (firstOr o none) (unlessLoud (sharesOver (shareBy vs r) (p ∷ [])))) e ∙ sym (hear-is vs p r)
+  module _ (ws : List Wall) (vs : List Voice) (e : barOf p r ≡ none) where
+    -- by what the walls take off
+    by-loss : (l : Loss) → screenBetween ws p r ≡ l
+        → pairOver (shareBy ws vs r) (twoWalls ws r) r (p ∷ []) ≡ unlessWalls (isTwice l || false) (unlessLoud (sharesOver (shareBy ws vs r) (p ∷ [])))
+    by-loss l f =
+        ap (λ (o : Option Bar). unlessBarred (firstOr o none) (unlessWalls (anyOf (twoWalls ws r) (p ∷ [])) (unlessLoud (sharesOver (shareBy ws vs r) (p ∷ []))))) e
+        ∙ ap (λ (k : Loss). unlessWalls (isTwice k || false) (unlessLoud (sharesOver (shareBy ws vs r) (p ∷ [])))) f
+
+    pub one-walled : screenBetween ws p r ≡ Twice → pairOver (shareBy ws vs r) (twoWalls ws r) r (p ∷ []) ≡ Barred Walls
+    one-walled f = by-loss Twice f
+
+    pub one-heard : (d : ℕ) → screenBetween ws p r ≡ Off d
+        → pairOver (shareBy ws vs r) (twoWalls ws r) r (p ∷ []) ≡ hearOf vs (lengthTerm (p .length)) (planSquare p r) (spaceSquare p r) (rayHeight r) d
+    one-heard d f =
+        by-loss (Off d) f ∙ sym (hear-is ws vs p r)
+        ∙ ap (λ (k : Loss). hearOf vs (lengthTerm (p .length)) (planSquare p r) (spaceSquare p r) (rayHeight r) (takenOff k)) f
 
 -- ---- two parts of a road
 
@@ -236,13 +262,22 @@ first-append r (p ∷ ps) qs = ap (firstOr (barOf p r)) (first-append r ps qs) �
     nested (some b) = refl
     nested none = refl
 
--- no place is loud
+any-append : (two : Piece → Bool) (ps qs : List Piece) → anyOf two (ps ++ qs) ≡ (anyOf two ps || anyOf two qs)
+any-append two [] qs = refl
+any-append two (p ∷ ps) qs = ap (λ (b : Bool). two p || b) (any-append two ps qs) ∙ nested (two p)
+  where
+    nested : (b : Bool) → (b || (anyOf two ps || anyOf two qs)) ≡ ((b || anyOf two ps) || anyOf two qs)
+    nested true = refl
+    nested false = refl
+
+-- no place is loud, nor are walls a place
 abbrev Placed : Option Bar → Type 0
 Placed none = Unit
 Placed (some Near) = Unit
 Placed (some Far) = Unit
 Placed (some Long) = Unit
 Placed (some Loud) = ⊥
+Placed (some Walls) = ⊥
 
 bar-placed : (p : Piece) (r : Receiver) → Placed (barOf p r)
 unfolding barOf
@@ -295,31 +330,68 @@ loud-left x y = any-more _ _ _ _ _ _ (above-left (x .day) (y .day)) (above-left 
 loud-right : (x y : Shares) → isLoud y ≡ true → isLoud (addedShares x y) ≡ true
 loud-right x y = any-more _ _ _ _ _ _ (above-right (x .day) (y .day)) (above-right (x .evening) (y .evening)) (above-right (x .night) (y .night))
 
-settled-join : (a b : Option Bar) → Placed a → (x y : Shares)
-    → unlessBarred (firstOr a b) (unlessLoud (addedShares x y)) ≡ joined (unlessBarred a (unlessLoud x)) (unlessBarred b (unlessLoud y))
-unfolding joined
-settled-join (some Near) b h x y = refl
-settled-join (some Far) b h x y = refl
-settled-join (some Long) b h x y = refl
-settled-join (some Loud) b h x y = absurd h
-settled-join none (some b) h x y = go (isLoud x)
-  where
-    go : (t : Bool) → Barred b ≡ joined (cond t (Barred Loud) (Heard x)) (Barred b)
-    go true = refl
-    go false = refl
-settled-join none none h x y = go (isLoud x) refl (isLoud y) refl
-  where
-    go : (t : Bool) → isLoud x ≡ t → (u : Bool) → isLoud y ≡ u
-        → unlessLoud (addedShares x y) ≡ joined (cond t (Barred Loud) (Heard x)) (cond u (Barred Loud) (Heard y))
-    go true e true f = ap (λ (w : Bool). cond w (Barred Loud) (Heard (addedShares x y))) (loud-left x y e)
-    go true e false f = ap (λ (w : Bool). cond w (Barred Loud) (Heard (addedShares x y))) (loud-left x y e)
-    go false e true f = ap (λ (w : Bool). cond w (Barred Loud) (Heard (addedShares x y))) (loud-right x y f)
-    go false e false f = refl
+-- the rest of a pair, behind the bars of a place
+abbrev rest : Bool → Shares → Pair
+rest two x = unlessWalls two (unlessLoud x)
 
-pub join-is : (f : Piece → ℕ → ℕ) (r : Receiver) (ps qs : List Piece) → pairOver f r (ps ++ qs) ≡ joined (pairOver f r ps) (pairOver f r qs)
-join-is f r ps qs =
-    (λ j. unlessBarred (first-append r ps qs j) (unlessLoud (shares-append f ps qs j)))
-    ∙ settled-join (firstBar r ps) (firstBar r qs) (first-placed r ps) (sharesOver f ps) (sharesOver f qs)
+-- a bar of a place comes before all of the second part, and before the walls and the loudness of the first
+placed-rank : (b : Bar) → Placed (some b) → rank b ≡ 0
+placed-rank Near h = refl
+placed-rank Far h = refl
+placed-rank Long h = refl
+placed-rank Loud h = absurd h
+placed-rank Walls h = absurd h
+
+first-bar : (a b : Bar) → rank a ≤ rank b → Barred a ≡ Barred (earlier a b)
+first-bar a b h = sym (ap (λ (t : Bool). Barred (cond t a b)) (le-leb (rank a) (rank b) h))
+
+second-bar : (a b : Bar) → rank b < rank a → Barred b ≡ Barred (earlier a b)
+second-bar a b h = sym (ap (λ (t : Bool). Barred (cond t a b)) (lt-leb (rank a) (rank b) h))
+
+placed-first : (b : Bar) → Placed (some b) → (q : Pair) → Barred b ≡ joined (Barred b) q
+unfolding joined
+placed-first b h (Heard y) = refl
+placed-first b h (Barred a) = first-bar b a (omega (arith, placed-rank b h))
+
+placed-second : (b : Bar) → Placed (some b) → (two : Bool) (x : Shares) → Barred b ≡ joined (rest two x) (Barred b)
+unfolding joined
+placed-second b h two x = go two (isLoud x)
+  where
+    go : (t u : Bool) → Barred b ≡ joined (cond t (Barred Walls) (cond u (Barred Loud) (Heard x))) (Barred b)
+    go true u = second-bar Walls b (omega (arith, placed-rank b h))
+    go false true = second-bar Loud b (omega (arith, placed-rank b h))
+    go false false = refl
+
+rest-join : (t u : Bool) (x y : Shares) → rest (t || u) (addedShares x y) ≡ joined (rest t x) (rest u y)
+unfolding joined
+rest-join t u x y = go t u (isLoud x) refl (isLoud y) refl
+  where
+    both : (l : Bool) → isLoud (addedShares x y) ≡ l → unlessLoud (addedShares x y) ≡ cond l (Barred Loud) (Heard (addedShares x y))
+    both l e = ap (λ (w : Bool). cond w (Barred Loud) (Heard (addedShares x y))) e
+
+    go : (t u : Bool) (l : Bool) → isLoud x ≡ l → (m : Bool) → isLoud y ≡ m → rest (t || u) (addedShares x y)
+        ≡ joined (cond t (Barred Walls) (cond l (Barred Loud) (Heard x))) (cond u (Barred Walls) (cond m (Barred Loud) (Heard y)))
+    go true true l e m f = refl
+    go true false l e true f = refl
+    go true false l e false f = refl
+    go false true true e m f = refl
+    go false true false e m f = refl
+    go false false true e true f = both true (loud-left x y e)
+    go false false true e false f = both true (loud-left x y e)
+    go false false false e true f = both true (loud-right x y f)
+    go false false false e false f = refl
+
+settled-join : (a b : Option Bar) → Placed a → Placed b → (t u : Bool) (x y : Shares)
+    → unlessBarred (firstOr a b) (rest (t || u) (addedShares x y)) ≡ joined (unlessBarred a (rest t x)) (unlessBarred b (rest u y))
+settled-join (some a) b h l t u x y = placed-first a h (unlessBarred b (rest u y))
+settled-join none (some b) h l t u x y = placed-second b l t x
+settled-join none none h l t u x y = rest-join t u x y
+
+pub join-is : (f : Piece → ℕ → ℕ) (two : Piece → Bool) (r : Receiver) (ps qs : List Piece)
+    → pairOver f two r (ps ++ qs) ≡ joined (pairOver f two r ps) (pairOver f two r qs)
+join-is f two r ps qs =
+    (λ j. unlessBarred (first-append r ps qs j) (rest (any-append two ps qs j) (shares-append f ps qs j)))
+    ∙ settled-join (firstBar r ps) (firstBar r qs) (first-placed r ps) (first-placed r qs) (anyOf two ps) (anyOf two qs) (sharesOver f ps) (sharesOver f qs)
 
 -- ---- what a ledger and a book know of a pair: no share is above 10^15
 
@@ -350,51 +422,53 @@ unless-loud-bounded h i = go (isLoud h) refl
         let b = or-false (ltb mostShare (h .day)) (ltb mostShare (h .evening)) (a .0) in
         three i (ltb-false _ _ (b .0)) (ltb-false _ _ (b .1)) (ltb-false _ _ (a .1))
 
-pub over-bounded : (f : Piece → ℕ → ℕ) (r : Receiver) (ps : List Piece) (i : ℕ) → shareIn (pairOver f r ps) i ≤ mostShare
-over-bounded f r ps i = go (firstBar r ps)
+pub over-bounded : (f : Piece → ℕ → ℕ) (two : Piece → Bool) (r : Receiver) (ps : List Piece) (i : ℕ) → shareIn (pairOver f two r ps) i ≤ mostShare
+over-bounded f two r ps i = go (firstBar r ps) (anyOf two ps)
   where
-    go : (o : Option Bar) → shareIn (unlessBarred o (unlessLoud (sharesOver f ps))) i ≤ mostShare
-    go (some b) = nothing-brought b i
-    go none = unless-loud-bounded (sharesOver f ps) i
+    go : (o : Option Bar) (t : Bool) → shareIn (unlessBarred o (rest t (sharesOver f ps))) i ≤ mostShare
+    go (some b) t = nothing-brought b i
+    go none true = nothing-brought Walls i
+    go none false = unless-loud-bounded (sharesOver f ps) i
 
-pub pair-bounded : Bounded pairOf
+pub pair-bounded : (ws : List Wall) → Bounded (pairOf ws)
 unfolding pairOf
-pair-bounded s r i = over-bounded (λ p j. shareOf s p r j) r (piecesFor r (s .course)) i
+pair-bounded ws s r i = over-bounded (λ p j. shareOf ws s p r j) (twoWalls ws r) r (piecesFor r (s .course)) i
 
 pub heard-most : (pair : Pairing) → Bounded pair → (s : Source) (r : Receiver) (h : Shares) → pair s r ≡ Heard h → (i : ℕ) → shareIn (Heard h) i ≤ mostShare
 heard-most pair bounded s r h e i = subst (λ (p : Pair). shareIn p i ≤ mostShare) e (bounded s r i)
 
 -- ---- the promises of the two courses
 
-loud-in : (s : Source) (p : Piece) (r : Receiver) (i : ℕ) → loudIn s p r i ≡ ltb mostShare (shareOf s p r i)
+loud-in : (ws : List Wall) (s : Source) (p : Piece) (r : Receiver) (i : ℕ) → loudIn ws s p r i ≡ ltb mostShare (shareOf ws s p r i)
 unfolding loudIn shareOf
-loud-in s p r i = go (eqb (period s i .m) 0)
+loud-in ws s p r i = go (eqb (period s i .m) 0)
   where
-    go : (b : Bool) → cond b false (tooLoud (shareLevel s p r i)) ≡ ltb mostShare (cond b 0 (energyShare (shareLevel s p r i)))
+    go : (b : Bool) → cond b false (tooLoud (shareLevel ws s p r i)) ≡ ltb mostShare (cond b 0 (energyShare (shareLevel ws s p r i)))
     go true = refl
-    go false = loud-is (shareLevel s p r i)
+    go false = loud-is (shareLevel ws s p r i)
 
-alone : (s : Source) (p : Piece) (r : Receiver)
-    → unlessLoud (sharesOver (λ q i. shareOf s q r i) (p ∷ [])) ≡ cond (loudIn s p r 0 || loudIn s p r 1 || loudIn s p r 2) (Barred Loud) (Heard (sharesOf s p r))
+alone : (ws : List Wall) (s : Source) (p : Piece) (r : Receiver)
+    → unlessLoud (sharesOver (λ q i. shareOf ws s q r i) (p ∷ [])) ≡ cond (loudIn ws s p r 0 || loudIn ws s p r 1 || loudIn ws s p r 2) (Barred Loud) (Heard (sharesOf ws s p r))
 unfolding sharesOf
-alone s p r =
-    (λ j. unlessLoud (record { day = add-zero (shareOf s p r 0) j; evening = add-zero (shareOf s p r 1) j; night = add-zero (shareOf s p r 2) j }))
-    ∙ sym (λ j. cond (loud-in s p r 0 j || loud-in s p r 1 j || loud-in s p r 2 j) (Barred Loud)
-    (Heard (record { day = shareOf s p r 0; evening = shareOf s p r 1; night = shareOf s p r 2 })))
+alone ws s p r =
+    (λ j. unlessLoud (record { day = add-zero (shareOf ws s p r 0) j; evening = add-zero (shareOf ws s p r 1) j; night = add-zero (shareOf ws s p r 2) j }))
+    ∙ sym (λ j. cond (loud-in ws s p r 0 j || loud-in ws s p r 1 j || loud-in ws s p r 2 j) (Barred Loud)
+    (Heard (record { day = shareOf ws s p r 0; evening = shareOf ws s p r 1; night = shareOf ws s p r 2 })))
 
-uncut : (s : Source) (r : Receiver) (p : Piece) → s .course ≡ Uncut p → pairOf s r ≡ pieceAlone s p r
+uncut : (ws : List Wall) (s : Source) (r : Receiver) (p : Piece) → s .course ≡ Uncut p → pairOf ws s r ≡ pieceAlone ws s p r
 unfolding pairOf barOf
-uncut s r p e =
-    ap (λ (c : Course). pairOver (λ q i. shareOf s q r i) r (piecesFor r c)) e
-    ∙ go (ltb (spaceSquare p r) nearest) (ltb farthest (spaceSquare p r)) (ltb (spaceSquare p r) (4 * square (p .length)))
+uncut ws s r p e =
+    ap (λ (c : Course). pairOver (λ q i. shareOf ws s q r i) (twoWalls ws r) r (piecesFor r c)) e
+    ∙ go (ltb (spaceSquare p r) nearest) (ltb farthest (spaceSquare p r)) (ltb (spaceSquare p r) (4 * square (p .length))) (twoWalls ws r p)
   where
-    go : (a b d : Bool)
-        → unlessBarred (firstOr (cond a (some Near) (cond b (some Far) (cond d (some Long) none))) none) (unlessLoud (sharesOver (λ q i. shareOf s q r i) (p ∷ [])))
-        ≡ cond a (Barred Near) (cond b (Barred Far) (cond d (Barred Long) (cond (loudIn s p r 0 || loudIn s p r 1 || loudIn s p r 2) (Barred Loud) (Heard (sharesOf s p r)))))
-    go true b d = refl
-    go false true d = refl
-    go false false true = refl
-    go false false false = alone s p r
+    go : (a b d t : Bool)
+        → unlessBarred (firstOr (cond a (some Near) (cond b (some Far) (cond d (some Long) none))) none) (rest (t || false) (sharesOver (λ q i. shareOf ws s q r i) (p ∷ [])))
+        ≡ cond a (Barred Near) (cond b (Barred Far) (cond d (Barred Long) (cond t (Barred Walls) (cond (loudIn ws s p r 0 || loudIn ws s p r 1 || loudIn ws s p r 2) (Barred Loud) (Heard (sharesOf ws s p r))))))
+    go true b d t = refl
+    go false true d t = refl
+    go false false true t = refl
+    go false false false true = refl
+    go false false false false = alone ws s p r
 
 -- a bar that is not for the length
 abbrev Short : Option Bar → Type 0
@@ -403,6 +477,7 @@ Short (some Near) = Unit
 Short (some Far) = Unit
 Short (some Long) = ⊥
 Short (some Loud) = Unit
+Short (some Walls) = Unit
 
 bar-short : (p : Piece) (r : Receiver) → (nearest ≤ spaceSquare p r → Fits (spaceSquare p r) p) → Short (barOf p r)
 bar-short p r f = go (decLe nearest (spaceSquare p r)) (decLe (spaceSquare p r) farthest)
@@ -424,30 +499,52 @@ abbrev NotLong : Pair → Type 0
 NotLong (Heard h) = Unit
 NotLong (Barred b) = Short (some b)
 
-never-long : (s : Source) (r : Receiver) (e : Ends) → s .course ≡ Between e → pairOf s r ≢ Barred Long
+never-long : (ws : List Wall) (s : Source) (r : Receiver) (e : Ends) → s .course ≡ Between e → pairOf ws s r ≢ Barred Long
 unfolding pairOf
-never-long s r e c h = subst NotLong h (subst (λ (k : Course). NotLong (pairOver (λ p i. shareOf s p r i) r (piecesFor r k))) (sym c) (go (firstBar r ps) (first-short r ps (of-courses .fit (λ p. spaceSquare p r) e))))
+never-long ws s r e c h =
+    subst NotLong h
+    (subst (λ (k : Course). NotLong (pairOver (λ p i. shareOf ws s p r i) (twoWalls ws r) r (piecesFor r k))) (sym c)
+    (go (firstBar r ps) (first-short r ps (of-courses .fit (λ p. spaceSquare p r) e))))
   where
     ps : List Piece
     ps = piecesBetween (λ p. spaceSquare p r) e
 
     x : Shares
-    x = sharesOver (λ p i. shareOf s p r i) ps
+    x = sharesOver (λ p i. shareOf ws s p r i) ps
 
-    quiet : (t : Bool) → NotLong (cond t (Barred Loud) (Heard x))
-    quiet true = tt
-    quiet false = tt
+    quiet : (t u : Bool) → NotLong (cond t (Barred Walls) (cond u (Barred Loud) (Heard x)))
+    quiet true u = tt
+    quiet false true = tt
+    quiet false false = tt
 
-    go : (o : Option Bar) → Short o → NotLong (unlessBarred o (unlessLoud x))
+    go : (o : Option Bar) → Short o → NotLong (unlessBarred o (rest (anyOf (twoWalls ws r) ps) x))
     go (some b) k = k
-    go none k = quiet (isLoud x)
+    go none k = quiet (anyOf (twoWalls ws r) ps) (isLoud x)
+
+-- the order of the walls
+loss-order : {l m : List Wall} → List·Permᴰ l m → (p : Piece) (r : Receiver) → screenBetween l p r ≡ screenBetween m p r
+unfolding screenBetween lossOf
+loss-order π p r = ap (lossBy (point (p .x) (p .y)) (point (r .x) (r .y)) (r .height) (planSquare p r) (spaceSquare p r)) (met-any-order _ _ π)
+
+share-order : {l m : List Wall} → List·Permᴰ l m → (s : Source) (p : Piece) (r : Receiver) (i : ℕ) → shareOf l s p r i ≡ shareOf m s p r i
+unfolding shareOf shareLevel
+share-order π s p r i =
+    ap (λ (k : Loss). cond (eqb (period s i .m) 0) 0 (energyShare (
+    emissionLevel s i ⊕ lengthTerm (p .length) ⊕ distanceTerm (spaceSquare p r) (rootOf (spaceSquare p r))
+    ⊕ obstacleTerm (rayHeight r) (rootOf (spaceSquare p r)) (takenOff k)
+    ⊕ wallsTerm (s .walls) (s .height) (s .spacing) ⊕ weatherTerm (weatherOf i) (rayHeight r) (rootOf (planSquare p r))))) (loss-order π p r)
+
+any-order : {l m : List Wall} → List·Permᴰ l m → pairOf l ≡ pairOf m
+unfolding pairOf
+any-order π = λ j s r. pairOver (λ p i. share-order π s p r i j) (λ p. isTwice (loss-order π p r j)) r (piecesFor r (s .course))
 
 pub of-pairs : Promises
-of-pairs = record { uncut = uncut; never-long = never-long }
+of-pairs = record { uncut = uncut; never-long = never-long; any-order = any-order }
 
 -- the case of an uncut piece that is in reach and nowhere loud
-pub pair-heard : (s : Source) (p : Piece) (r : Receiver) → s .course ≡ Uncut p
-    → nearest ≤ spaceSquare p r → spaceSquare p r ≤ farthest → 4 * square (p .length) ≤ spaceSquare p r
-    → (loudIn s p r 0 || loudIn s p r 1 || loudIn s p r 2) ≡ false → pairOf s r ≡ Heard (sharesOf s p r)
-pair-heard s p r c a b h e =
-    uncut s r p c ∙ rw (le-ltb (spaceSquare p r) nearest a, le-ltb farthest (spaceSquare p r) b, le-ltb (spaceSquare p r) (4 * square (p .length)) h, e) refl
+pub pair-heard : (ws : List Wall) (s : Source) (p : Piece) (r : Receiver) → s .course ≡ Uncut p
+    → nearest ≤ spaceSquare p r → spaceSquare p r ≤ farthest → 4 * square (p .length) ≤ spaceSquare p r → twoWalls ws r p ≡ false
+    → (loudIn ws s p r 0 || loudIn ws s p r 1 || loudIn ws s p r 2) ≡ false → pairOf ws s r ≡ Heard (sharesOf ws s p r)
+pair-heard ws s p r c a b h t e =
+    uncut ws s r p c
+    ∙ rw (le-ltb (spaceSquare p r) nearest a, le-ltb farthest (spaceSquare p r) b, le-ltb (spaceSquare p r) (4 * square (p .length)) h, t, e) refl

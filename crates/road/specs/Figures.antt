@@ -1,10 +1,11 @@
--- The figures worked by hand that are proved: those on Z and lv, then those on roads, as one table.
+-- The figures worked by hand that are proved: those on Z and lv, on roads and on noise walls, as one table.
 -- Each row is a number as the definitions have it, beside the number on paper.
 use Prim.Native.Nat.{ℕ, _-_}
 use mathlib.Core.List.{List, [], _∷_, _++_}
 use Rattle.level.specs.Figures.{Figure, _is_, levels}
 use Rattle.course.specs.declared.Piece.{Piece}
 use Rattle.course.specs.declared.Course.the-variants.{Uncut}
+use Rattle.screen.specs.Figures.{screens}
 use Rattle.road.specs.declared.Term.{Term}
 use Rattle.road.specs.declared.Traffic.{Traffic}
 use Rattle.road.specs.declared.Source.{Source}
@@ -50,10 +51,10 @@ roads =
     ∷ (below (speedTerm 100 80 0) is 6) ∷ (below (speedTerm 100 80 200) is 7)
     ∷ (above (gradientTerm 50) is 0) ∷ (above (gradientTerm 51) is 6) ∷ (above (gradientTerm 120) is 420)
     ∷ (above (wallsTerm 1 600 1200) is 200) ∷ (above (wallsTerm 1 1200 1200) is 320) ∷ (above (wallsTerm 2 1200 1200) is 160)
-    ∷ (above (shareLevel (road 102500) (piece 102500) home 0) is 6028) ∷ (above (shareLevel (road 102500) (piece 102500) home 1) is 6028)
-    ∷ (above (shareLevel (road 102500) (piece 102500) home 2) is 5028)
-    ∷ (above (shareLevel (road 110000) (piece 110000) home 0) is 4293) ∷ (above (shareLevel (road 110000) (piece 110000) home 1) is 4348)
-    ∷ (above (shareLevel (road 110000) (piece 110000) home 2) is 3403) ∷ []
+    ∷ (above (shareLevel [] (road 102500) (piece 102500) home 0) is 6028) ∷ (above (shareLevel [] (road 102500) (piece 102500) home 1) is 6028)
+    ∷ (above (shareLevel [] (road 102500) (piece 102500) home 2) is 5028)
+    ∷ (above (shareLevel [] (road 110000) (piece 110000) home 0) is 4293) ∷ (above (shareLevel [] (road 110000) (piece 110000) home 1) is 4348)
+    ∷ (above (shareLevel [] (road 110000) (piece 110000) home 2) is 3403) ∷ []
 
 unfoldable pub figures : List Figure
-figures = levels ++ roads
+figures = levels ++ roads ++ screens

@@ -4,11 +4,13 @@ use Prim.Native.Nat.{ℕ, _+_, _-_, _*_, _≤_}
 use mathlib.Core.Bool.{true, false, cond, _||_}
 use mathlib.Core.List.{List, [], _∷_}
 use lib.ListN.{getD}
-use lib.Dec.{eqb}
+use lib.Dec.{leb, eqb}
 use Rattle.root.specs.Root.{rootOf}
 use Rattle.course.specs.declared.Piece.{Piece}
 use Rattle.course.specs.Course.{wholeOf}
 use Rattle.level.specs.Level.{lvOf, energyOf}
+use Rattle.screen.specs.declared.Wall.{Wall}
+use Rattle.screen.specs.Screen.{takenOff}
 use Rattle.road.specs.declared.Term.{Term}
 use Rattle.road.specs.declared.Source.{Source}
 use Rattle.road.specs.declared.Receiver.{Receiver}
@@ -21,10 +23,10 @@ use Rattle.road.specs.declared.emission.Pace.{Pace}
 use Rattle.road.specs.Term.{term, _⊕_, period}
 use Rattle.road.specs.Emission.{emissionLevel, trafficTerm, surfaceTerm, gradientTerm, reflectionTerm, carSpeed, truckSpeed, truckGain, carLevel}
 use Rattle.road.specs.declared.Bar.{Bar}
-use Rattle.road.specs.declared.Bar.the-variants.{Near, Far, Long, Loud}
+use Rattle.road.specs.declared.Bar.the-variants.{Near, Far, Long, Loud, Walls}
 use Rattle.road.specs.declared.Pair.{Pair}
 use Rattle.road.specs.declared.Pair.the-variants.{Heard, Barred}
-use Rattle.road.specs.Reach.{planSquare, spaceSquare, rayHeight, lengthTerm, wallsTerm, distanceTerm, groundTerm, weatherTerm, weatherOf, energyShare, tooLoud, unlessLoud}
+use Rattle.road.specs.Reach.{planSquare, spaceSquare, rayHeight, lengthTerm, wallsTerm, distanceTerm, obstacleTerm, screenBetween, weatherTerm, weatherOf, energyShare, tooLoud, unlessLoud}
 
 -- what speed gives: one car's level, and how much more energy than the car's a truck has, of which p takes its part
 abbrev pub paceOf : Source → Pace
@@ -80,45 +82,50 @@ pub record Moderate (vs : List Voice) : Type 0 where
   pub evening : Modest (getD vs 1 silent)
   pub night : Modest (getD vs 2 silent)
 
--- what is added on the way in the period i: the length's term l, distance, ground, weather
-abbrev pub wayOf : Term → ℕ → ℕ → ℕ → ℕ → Term
-wayOf l q0 q h i = l ⊕ (distanceTerm q (rootOf q) ⊕ groundTerm h (rootOf q)) ⊕ weatherTerm (weatherOf i) h (rootOf q0)
+-- what is added on the way in the period i: the length's term l, distance, ground or the screening d, weather
+abbrev pub wayOf : Term → ℕ → ℕ → ℕ → ℕ → ℕ → Term
+wayOf l q0 q h d i = l ⊕ (distanceTerm q (rootOf q) ⊕ obstacleTerm h (rootOf q) d) ⊕ weatherTerm (weatherOf i) h (rootOf q0)
 
-abbrev pub partIn : List Voice → Term → ℕ → ℕ → ℕ → ℕ → Part
-partIn vs l q0 q h i = voicedPart (getD vs i silent) (wayOf l q0 q h i)
+abbrev pub partIn : List Voice → Term → ℕ → ℕ → ℕ → ℕ → ℕ → Part
+partIn vs l q0 q h d i = voicedPart (getD vs i silent) (wayOf l q0 q h d i)
 
 abbrev pub pairBy : Part → Part → Part → Pair
 pairBy day evening night =
     cond (day .loud || evening .loud || night .loud) (Barred Loud)
     (Heard (record { day = day .energy; evening = evening .energy; night = night .energy }))
 
-unfoldable pub hearOf : List Voice → Term → ℕ → ℕ → ℕ → Pair
-hearOf vs l q0 q h = pairBy (partIn vs l q0 q h 0) (partIn vs l q0 q h 1) (partIn vs l q0 q h 2)
+unfoldable pub hearOf : List Voice → Term → ℕ → ℕ → ℕ → ℕ → Pair
+hearOf vs l q0 q h d = pairBy (partIn vs l q0 q h d 0) (partIn vs l q0 q h d 1) (partIn vs l q0 q h d 2)
 
--- the share of the piece p in the period i, by the voices
+-- the share of the piece p in the period i, among the walls ws, by the voices
 abbrev pub voicedShare : Voice → Term → ℕ
 voicedShare v t = cond (v .sounds) (energyShare (v .level ⊕ t)) 0
 
-unfoldable pub shareBy : List Voice → Receiver → Piece → ℕ → ℕ
-shareBy vs r p i = voicedShare (getD vs i silent) (wayOf (lengthTerm (p .length)) (planSquare p r) (spaceSquare p r) (rayHeight r) i)
+abbrev pub wayFor : List Wall → Receiver → Piece → ℕ → Term
+wayFor ws r p i = wayOf (lengthTerm (p .length)) (planSquare p r) (spaceSquare p r) (rayHeight r) (takenOff (screenBetween ws p r)) i
+
+unfoldable pub shareBy : List Wall → List Voice → Receiver → Piece → ℕ → ℕ
+shareBy ws vs r p i = voicedShare (getD vs i silent) (wayFor ws r p i)
 
 -- ---- what two parts of a road make together
 
 abbrev pub addedShares : Shares → Shares → Shares
 addedShares x y = record { day = x .day + y .day; evening = x .evening + y .evening; night = x .night + y .night }
 
--- a bar of the second part by its place comes before the loudness of the first
-abbrev pub afterLoud : Pair → Pair
-afterLoud (Heard y) = Barred Loud
-afterLoud (Barred b) = Barred b
+-- the order of the bars of a pair: those of a place, 14, 13
+abbrev pub rank : Bar → ℕ
+rank Near = 0
+rank Far = 0
+rank Long = 0
+rank Walls = 1
+rank Loud = 2
 
-abbrev pub afterBar : Bar → Pair → Pair
-afterBar Near q = Barred Near
-afterBar Far q = Barred Far
-afterBar Long q = Barred Long
-afterBar Loud q = afterLoud q
+-- of two, the first part's where both are of one rank
+abbrev pub earlier : Bar → Bar → Bar
+earlier a b = cond (leb (rank a) (rank b)) a b
 
 unfoldable pub joined : Pair → Pair → Pair
-joined (Barred b) q = afterBar b q
+joined (Barred a) (Barred b) = Barred (earlier a b)
+joined (Barred a) (Heard y) = Barred a
 joined (Heard x) (Barred b) = Barred b
 joined (Heard x) (Heard y) = unlessLoud (addedShares x y)

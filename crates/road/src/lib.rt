@@ -70,12 +70,13 @@ pub struct Shares {
     pub night: u64,
 }
 
-// Why a road and a point do not go together.
+// Why a road and a point do not go together: by a place or a length, by loudness, or by more than one wall between them.
 pub enum Bar {
     Near,
     Far,
     Long,
     Loud,
+    Walls,
 }
 
 // What a road and a point make: three shares, or a bar.

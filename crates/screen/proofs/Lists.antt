@@ -12,8 +12,12 @@ use Rattle.screen.specs.declared.Point.{Point}
 use Rattle.screen.specs.declared.Wall.{Wall}
 use Rattle.screen.specs.declared.Met.{Met}
 use Rattle.screen.specs.declared.Met.the-variants.{Nothing, One, Several}
-use Rattle.screen.specs.Plan.{WallOnPlan, counts}
-use Rattle.screen.specs.Screen.{between, told, metOf, oneMore, lookAt, wallNumbers, wallOf, laid, wallsIn, wallsOf, AllOnPlan, Laid}
+use Rattle.screen.specs.declared.Loss.the-variants.{Off, Twice}
+use Rattle.screen.specs.Plan.{WallOnPlan, counts, fractionOf}
+use Rattle.screen.specs.Section.{Reaches, sectionOf, screening, screeningOf}
+use Rattle.screen.specs.Screen.{between, told, metOf, lossBy, lossOf, oneMore, lookAt, wallNumbers, wallOf, laid, wallsIn, wallsOf, AllOnPlan, Laid}
+use Rattle.screen.proofs.Lines.{fraction-proper}
+use Rattle.screen.proofs.Heights.{section-upright, screening-most}
 
 -- ---- walls laid as numbers are those walls again
 
@@ -119,6 +123,22 @@ told-one (v ∷ u ∷ l) w e = absurd (let z : _≡_ {A = ℕ} 0 1 = cc in omega
 pub one-chosen : (p r : Point) (ws : List Wall) (w : Wall) → AllOnPlan ws → metOf p r ws ≡ One w → Chosen p r w
 unfolding metOf
 one-chosen p r ws w h e = first p r ws w [] h (told-one (between p r ws) w e)
+
+-- ---- what walls take off is less than 60 dB
+
+pub loss-most : (p r : Point) (height q0 q : ℕ) (ws : List Wall) (d : ℕ) → AllOnPlan ws → Reaches height q0 q
+    → lossOf p r height q0 q ws ≡ Off d → d ≤ 6000
+unfolding lossOf screeningOf
+loss-most p r height q0 q ws d h e f = go (metOf p r ws) refl f
+  where
+    go : (m : Met) → metOf p r ws ≡ m → lossBy p r height q0 q m ≡ Off d → d ≤ 6000
+    go Nothing k f = let n : 0 ≡ d = cc in omega arith
+    go (One w) k f =
+        let c = one-chosen p r ws w h k in
+        let n : screening (sectionOf q0 q (fractionOf p r w) height (w .height)) ≡ d = cc in
+        let u = section-upright q0 q (fractionOf p r w) height (w .height) e (fraction-proper p r w (c .counted) .below) (c .stands .low) in
+        omega (arith, screening-most _ u)
+    go Several k f = absurd (let z : _≡_ {A = ℕ} 0 1 = cc in omega arith)
 
 -- ---- the order of the walls does not matter
 

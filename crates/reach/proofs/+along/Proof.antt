@@ -10,9 +10,10 @@ use borrow.Fn.PlainCycle.{Measures, is, falls, and}
 use Rattle.course.specs.declared.Piece.{Piece}
 use Rattle.course.specs.declared.Ends.{Ends}
 use Rattle.course.specs.Course.{lengthOf, onePiece, firstHalf, secondHalf, tooLong, long, piecesBetween, Mapped}
+use Rattle.screen.specs.Screen.{wallsOf}
 use Rattle.road.specs.Limits.{longest}
 use Rattle.road.specs.Pairs.{Mild}
-use Rattle.road.specs.Reach.{planSquare, spaceSquare, lengthTerm, pairOver}
+use Rattle.road.specs.Reach.{planSquare, spaceSquare, lengthTerm, twoWalls, pairOver}
 use Rattle.road.specs.Inner.{shareBy, joined}
 use Rattle.road.proofs.Fit.{FitPiece, FitEnds, FitReceiver, fit-one, fit-receiver}
 use Rattle.road.proofs.Pairs.{over-bounded}
@@ -33,15 +34,15 @@ use Rattle.road.proofs.emission.length.Reads as emission-length-reads
 use Rattle.reach.proofs.+along.{statement}
 use Rattle.reach.proofs.+along.Tie.{close}
 
--- the length of the road, which is the fourth argument
-abbrev μ-along : Measures 1 along-kinds.ps ℕ
-μ-along κs a = lengthOf (a .1 .1 .1 .0)
+-- the length of the road, which is the fifth argument
+abbrev μ-along : Measures 2 along-kinds.ps ℕ
+μ-along κs a = lengthOf (a .1 .1 .1 .1 .0)
 
-abbrev along-at : ℕ → In 1 along-kinds.ps
-along-at t = and 1 along-kinds.ps (is 1 along-kinds.ps μ-along t) along.Pre
+abbrev along-at : ℕ → In 2 along-kinds.ps
+along-at t = and 2 along-kinds.ps (is 2 along-kinds.ps μ-along t) along.Pre
 
-abbrev along-below : ℕ → In 1 along-kinds.ps
-along-below t = and 1 along-kinds.ps (falls 1 along-kinds.ps _<_ μ-along t) along.Pre
+abbrev along-below : ℕ → In 2 along-kinds.ps
+along-below t = and 2 along-kinds.ps (falls 2 along-kinds.ps _<_ μ-along t) along.Pre
 
 -- what the calls ask and give, in the order of the code
 abbrev calls : ℕ → along-lts.Claims
@@ -85,23 +86,23 @@ module _ (t : ℕ) (c : along-lts.Start (calls t) (along-at t) along.Post) where
 -- ---- how far the point is from the middle of all of it
 
 along-plan-requires : (t : ℕ) → along-lts.Need-plan-requires (calls t) (along-at t) along.Post
-along-plan-requires t c κs = let f = piece t c in let g = receiver t c in (f .x, f .y, g .x, g .y)
+along-plan-requires t c κs = let f = piece t (c .before) in let g = receiver t (c .before) in (f .x, f .y, g .x, g .y)
 
 along-space-requires : (t : ℕ) → along-lts.Need-space-requires (calls t) (along-at t) along.Post
 along-space-requires t c κs =
-    let s = c .before in
+    let s = c .before .before in
     let g = receiver t s in
     (omega (arith, c .plan .ensures, plan-most (s .args .whole) (s .args .r) (piece t s) g), omega (arith, g .low), omega (arith, g .high))
 
 along-too-long-requires : (t : ℕ) → along-lts.Need-too-long-requires (calls t) (along-at t) along.Post
-along-too-long-requires t c κs = omega (arith, piece t (c .before .before) .short)
+along-too-long-requires t c κs = omega (arith, piece t (c .before .before .before) .short)
 
 -- the test is the definition's
 tested : (t : ℕ) (c : along-lts.After-too-long (calls t) (along-at t) along.Post)
-    → let a = c .before .before .before .args in c .too-long .result ≡ long (far (a .r)) (a .e)
+    → let a = c .before .before .before .before .args in c .too-long .result ≡ long (far (a .r)) (a .e)
 unfolding long onePiece
 tested t c =
-    let s = c .before .before .before in
+    let s = c .before .before .before .before in
     let w = s .pre .1 .1 .1 in
     let q = space-is (s .args .whole) (s .args .r) _ _ (c .before .before .plan .ensures) (c .before .space .ensures) in
     c .too-long .ensures ∙ ap₂ tooLong (ap (λ (p : Piece). p .length) w) (q ∙ ap (λ (p : Piece). spaceSquare p (s .args .r)) w)
@@ -110,7 +111,7 @@ tested t c =
 
 module _ (t : ℕ) (c : along-lts.Then1 (calls t) (along-at t) along.Post) where
   abbrev begun : along-lts.Start (calls t) (along-at t) along.Post
-  begun = c .before .before .before .before
+  begun = c .before .before .before .before .before
 
   is-long : long (far (begun .args .r)) (begun .args .e) ≡ true
   is-long = sym (tested t (c .before)) ∙ c .if1 .taken
@@ -167,11 +168,12 @@ along-join-requires : (t : ℕ) → along-lts.Need-join-requires (calls t) (alon
 along-join-requires t c κs =
     let h = c .before .before .before .before .before .before in
     let a = begun t (h .before .before) .args in
-    let f = shareBy (a .voices) (a .r) in
+    let f = shareBy (wallsOf (a .walls .now)) (a .voices) (a .r) in
+    let two = twoWalls (wallsOf (a .walls .now)) (a .r) in
     let u = piecesBetween (far (a .r)) (h .before .first-half .result) in
     let v = piecesBetween (far (a .r)) (h .second-half .result) in
-    let x : Mild (c .before .before .before .along .result) = subst⁻¹ Mild (c .before .before .before .along .ensures) (over-bounded f (a .r) u) in
-    let y : Mild (c .along2 .result) = subst⁻¹ Mild (c .along2 .ensures) (over-bounded f (a .r) v) in
+    let x : Mild (c .before .before .before .along .result) = subst⁻¹ Mild (c .before .before .before .along .ensures) (over-bounded f two (a .r) u) in
+    let y : Mild (c .along2 .result) = subst⁻¹ Mild (c .along2 .ensures) (over-bounded f two (a .r) v) in
     (search (x, y), search (x, y))
 
 along-returns : (t : ℕ) → along-lts.Need-returns (calls t) (along-at t) along.Post
@@ -179,31 +181,33 @@ along-returns t c =
     let h = c .before .before .before .before .before .before .before in
     let k = h .before .before in
     let a = begun t k .args in
-    let f = shareBy (a .voices) (a .r) in
-    let u = c .before .before .before .before .along .ensures ∙ ap (λ (x : Ends). pairOver f (a .r) (piecesBetween (far (a .r)) x)) (h .before .first-half .ensures) in
-    let v = c .before .along2 .ensures ∙ ap (λ (x : Ends). pairOver f (a .r) (piecesBetween (far (a .r)) x)) (h .second-half .ensures) in
-    c .join .ensures ∙ ap₂ joined u v ∙ sym (over-cut (a .r) (a .e) f (is-long t k))
+    let f = shareBy (wallsOf (a .walls .now)) (a .voices) (a .r) in
+    let two = twoWalls (wallsOf (a .walls .now)) (a .r) in
+    let u = c .before .before .before .before .along .ensures ∙ ap (λ (x : Ends). pairOver f two (a .r) (piecesBetween (far (a .r)) x)) (h .before .first-half .ensures) in
+    let v = c .before .along2 .ensures ∙ ap (λ (x : Ends). pairOver f two (a .r) (piecesBetween (far (a .r)) x)) (h .second-half .ensures) in
+    c .join .ensures ∙ ap₂ joined u v ∙ sym (over-cut (a .r) (a .e) f two (is-long t k))
 
 -- ---- a road that is not
 
 along-length-requires-3 : (t : ℕ) → along-lts.Need-length-requires-3 (calls t) (along-at t) along.Post
-along-length-requires-3 t c κs = let s = c .before .before .before .before in let f = piece t s in (s .pre .1 .0 .0, f .some, f .short)
+along-length-requires-3 t c κs = let s = c .before .before .before .before .before in let f = piece t s in (s .pre .1 .0 .0, f .some, f .short)
 
 along-alone-requires : (t : ℕ) → along-lts.Need-alone-requires (calls t) (along-at t) along.Post
 along-alone-requires t c κs =
-    let s = c .before .before .before .before .before in
+    let s = c .before .before .before .before .before .before in
     let p = s .pre .1 .0 in
     let f = piece t s in
-    ((p .0, p .1, p .2, c .length3 .ensures), (f .x, f .y, f .some, f .short))
+    ((p .0, p .1, p .2, c .length3 .ensures, p .3), (f .x, f .y, f .some, f .short))
 
 along-returns-2 : (t : ℕ) → along-lts.Need-returns-2 (calls t) (along-at t) along.Post
 along-returns-2 t c =
     let b = c .before .before in
-    let s = b .before .before .before .before in
+    let s = b .before .before .before .before .before in
     let a = s .args in
-    let f = shareBy (a .voices) (a .r) in
+    let f = shareBy (wallsOf (a .walls .now)) (a .voices) (a .r) in
+    let two = twoWalls (wallsOf (a .walls .now)) (a .r) in
     let u : long (far (a .r)) (a .e) ≡ false = sym (tested t (b .before)) ∙ b .if1 .left in
-    c .alone .ensures ∙ ap (λ (p : Piece). pairOver f (a .r) (p ∷ [])) (s .pre .1 .1 .1) ∙ sym (over-uncut (a .r) (a .e) f u)
+    c .alone .ensures ∙ ap (λ (p : Piece). pairOver f two (a .r) (p ∷ [])) (s .pre .1 .1 .1) ∙ sym (over-uncut (a .r) (a .e) f two u)
 
 pub +along-spec : {M : Type 1} → statement M
 +along-spec =

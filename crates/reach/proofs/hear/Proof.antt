@@ -13,7 +13,7 @@ use Rattle.road.specs.declared.Bar.the-variants.{Loud}
 use Rattle.road.specs.declared.Pair.the-variants.{Heard, Barred}
 use Rattle.road.specs.declared.Part.{Part}
 use Rattle.road.specs.Term.{_⊕_}
-use Rattle.road.specs.Reach.{farthest, distanceTerm, groundTerm, weatherTerm, weatherOf}
+use Rattle.road.specs.Reach.{farthest, distanceTerm, obstacleTerm, weatherTerm, weatherOf}
 use Rattle.road.specs.Inner.{silent, voicedPart, partIn, pairBy, hearOf}
 use Rattle.road.proofs.Sums.{Small}
 use Rattle.road.proofs.Pairs.{Reached, reached, small-way}
@@ -42,14 +42,14 @@ far c = let p = c .before .pre .0 in rw (far-is c) (in-range (c .before .args .q
 way-requires : tie.Need-way-requires
 way-requires c κs =
     let p = c .before .pre .0 in
-    (p .0, omega (arith, p .2, p .3), p .4, p .5, far c .some, far c .most)
+    (p .0, omega (arith, p .2, p .3), p .4, p .5, far c .some, far c .most, c .before .pre .1 .2)
 
 -- distance and ground are small, and the length's term with them
 short : (c : tie.After-way) → Small 50000 (c .way .result)
 short c =
     let a = c .before .before .args in
     let p = c .before .before .pre .0 in
-    rw (c .way .ensures) (small-way (a .q) (c .before .last-lines .result .far .root) (a .h) (omega (arith, p .2, p .3)) (p .4) (far (c .before) .most))
+    rw (c .way .ensures) (small-way (a .q) (c .before .last-lines .result .far .root) (a .h) (a .screening) (omega (arith, p .2, p .3)) (p .4) (far (c .before) .most) (c .before .before .pre .1 .2))
 
 abbrev whole : tie.After-way → Term
 whole c = c .before .before .args .length ⊕ c .way .result
@@ -95,13 +95,13 @@ share-requires-3 c κs =
 -- the share by the way and the root that were found is the part of the period
 heard : (c : tie.After-way) (i : ℕ) (x : Part) → let a = c .before .before .args in
     x ≡ voicedPart (getD (a .t2) i silent) (whole c ⊕ weatherTerm (weatherOf i) (a .h) (c .before .last-lines .result .near .root))
-    → x ≡ partIn (a .t2) (a .length) (a .q0) (a .q) (a .h) i
+    → x ≡ partIn (a .t2) (a .length) (a .q0) (a .q) (a .h) (a .screening) i
 heard c i x e =
     let a = c .before .before .args in
     let f = far-is (c .before) in
     let n = near-is (c .before) in
-    let w : c .way .result ≡ distanceTerm (a .q) (rootOf (a .q)) ⊕ groundTerm (a .h) (rootOf (a .q)) =
-    c .way .ensures ∙ ap (λ (r : ℕ). distanceTerm (a .q) r ⊕ groundTerm (a .h) r) f in
+    let w : c .way .result ≡ distanceTerm (a .q) (rootOf (a .q)) ⊕ obstacleTerm (a .h) (rootOf (a .q)) (a .screening) =
+    c .way .ensures ∙ ap (λ (r : ℕ). distanceTerm (a .q) r ⊕ obstacleTerm (a .h) r (a .screening)) f in
     e ∙ (λ j. voicedPart (getD (a .t2) i silent) (a .length ⊕ w j ⊕ weatherTerm (weatherOf i) (a .h) (n j)))
 
 told-loud : (a b d : Part) → (a .loud || b .loud || d .loud) ≡ true → pairBy a b d ≡ Barred Loud
@@ -116,7 +116,7 @@ module _ (c : tie.After-share3) where
 
   parts : let a = way .before .before .args in
       pairBy (c .before .before .before .before .share .result) (c .before .before .share2 .result) (c .share3 .result)
-      ≡ hearOf (a .t2) (a .length) (a .q0) (a .q) (a .h)
+      ≡ hearOf (a .t2) (a .length) (a .q0) (a .q) (a .h) (a .screening)
   unfolding hearOf
   parts =
       let day = heard way 0 _ (c .before .before .before .before .share .ensures) in

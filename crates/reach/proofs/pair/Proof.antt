@@ -5,7 +5,8 @@ use borrow.Author.Needs.{needs}
 use Rattle.course.specs.declared.Piece.{Piece}
 use Rattle.course.specs.declared.Course.{Course}
 use Rattle.course.specs.Course.{wholeOf}
-use Rattle.road.specs.Reach.{lengthTerm, piecesFor, sharesOver, firstBar, unlessLoud, unlessBarred, shareOf, pairOver, pairOf}
+use Rattle.screen.specs.Screen.{wallsOf}
+use Rattle.road.specs.Reach.{lengthTerm, piecesFor, sharesOver, firstBar, anyOf, unlessWalls, unlessLoud, unlessBarred, shareOf, pairOver, twoWalls, pairOf}
 use Rattle.road.specs.Inner.{voicesOf, shareBy, Moderate}
 use Rattle.road.specs.declared.Source.{Source}
 use Rattle.road.specs.declared.Receiver.{Receiver}
@@ -33,43 +34,46 @@ lengthened c = (λ i. c .pre .2 i .length) ∙ sym (ap (λ (p : Piece). lengthTe
 
 -- the pair of any pieces by the voices that were sent is that of the source
 sent-by : (c : tie.Start) (ps : List Piece) → piecesFor (c .args .r) (c .args .s .course) ≡ ps
-    → pairOver (shareBy (c .args .sent .voices) (c .args .r)) (c .args .r) ps ≡ pairOf (c .args .s) (c .args .r)
+    → let ws = wallsOf (c .args .walls .now) in
+    pairOver (shareBy ws (c .args .sent .voices) (c .args .r)) (twoWalls ws (c .args .r)) (c .args .r) ps ≡ pairOf ws (c .args .s) (c .args .r)
 unfolding pairOf
 sent-by c ps e =
     let s = c .args .s in
     let r = c .args .r in
-    (λ i. unlessBarred (firstBar r ps) (unlessLoud (sharesOver (shareBy (c .pre .2 i .voices) r) ps)))
-    ∙ (λ i. unlessBarred (firstBar r ps) (unlessLoud (shares-by s r ps i)))
-    ∙ sym (ap (pairOver (λ p i. shareOf s p r i) r) e)
+    let ws = wallsOf (c .args .walls .now) in
+    let two = anyOf (twoWalls ws r) ps in
+    (λ i. unlessBarred (firstBar r ps) (unlessWalls two (unlessLoud (sharesOver (shareBy ws (c .pre .2 i .voices) r) ps))))
+    ∙ (λ i. unlessBarred (firstBar r ps) (unlessWalls two (unlessLoud (shares-by ws s r ps i))))
+    ∙ sym (ap (pairOver (λ p i. shareOf ws s p r i) (twoWalls ws r) r) e)
 
 enum-told : tie.Need-enum-told
 enum-told c = search needs
 
 alone-requires : tie.Need-alone-requires
 alone-requires c κs =
-    let s = c .before .before in
+    let s = c .before .before .before in
     let f = piece s in
-    ((s .pre .0, sounding s, s .pre .3, lengthened s), (f .x, f .y, f .some, f .short))
+    ((s .pre .0, sounding s, s .pre .3, lengthened s, s .pre .4), (f .x, f .y, f .some, f .short))
 
 enum-known-course : tie.Need-enum-known-course
 enum-known-course c = search needs
 
 along-requires : tie.Need-along-requires
 along-requires c κs =
-    let s = c .before .before .before .before .before in
+    let s = c .before .before .before .before .before .before in
     let e = c .before .before .before .course .given .1 in
     let f = subst FitCourse e (source s .course) in
-    ((s .pre .0, sounding s, s .pre .3), (f .mapped, whole s ∙ ap wholeOf e, f .some, f .short))
+    ((s .pre .0, sounding s, s .pre .3, s .pre .4), (f .mapped, whole s ∙ ap wholeOf e, f .some, f .short))
 
 returns : tie.Need-returns
 returns c =
-    let s = c .before .before .before in
+    let s = c .before .before .before .before in
     let e = c .before .enum-told .given .1 in
     c .alone .ensures ∙ sent-by s (s .args .sent .whole ∷ []) (ap (piecesFor (s .args .r)) e ∙ sym (ap (λ (p : Piece). p ∷ []) (whole s ∙ ap wholeOf e)))
 
 returns-2 : tie.Need-returns-2
 returns-2 c =
-    let s = c .before .before .before .before .before .before in
+    let s = c .before .before .before .before .before .before .before in
     c .along .ensures ∙ sent-by s _ (ap (piecesFor (s .args .r)) (c .before .before .before .before .course .given .1))
 
 pub pair-spec : {M : Type 1} → statement M
