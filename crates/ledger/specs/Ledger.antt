@@ -1,6 +1,7 @@
--- What becomes of a receiver on a source's round, the seats as they would be, and what the sources bring to a receiver.
+-- What becomes of a receiver on a source's round, the seats as they would be, what the sources bring to a receiver, and every account
+-- afresh.
 -- The book's calls are told without these values: a reader of the promises can pass over this file.
-use Prim.Native.Nat.{ℕ}
+use Prim.Native.Nat.{ℕ, suc, _*_, _≤_}
 use mathlib.Core.Path.{_≡_}
 use mathlib.Core.Bool.{true, false, cond, not}
 use mathlib.Core.Option.{Option, none, some}
@@ -9,11 +10,13 @@ use lib.ListN.{length, getD, set}
 use Rattle.answer.specs.declared.Refusal.{Refusal}
 use Rattle.road.specs.declared.Source.{Source}
 use Rattle.road.specs.declared.Receiver.{Receiver}
+use Rattle.road.specs.declared.Bar.{Bar}
 use Rattle.road.specs.declared.Pair.{Pair}
 use Rattle.road.specs.declared.Pair.the-variants.{Heard}
 use Rattle.road.specs.declared.Pair.the-variants.{Barred as Bars}
-use Rattle.road.specs.Reach.{pairOf}
-use Rattle.road.specs.Pairs.{Pairing}
+use Rattle.road.specs.Pairs.{Pairing, mostShare}
+use Rattle.road.specs.declared.Verdict.the-variants.{Allowed}
+use Rattle.road.specs.Judge.{receiverVerdict}
 use Rattle.store.specs.declared.Account.{Account}
 use Rattle.store.specs.declared.Held.{Held}
 use Rattle.store.specs.declared.Seat.{Seat}
@@ -27,7 +30,10 @@ use Rattle.ledger.specs.declared.round.Round.{Round}
 use Rattle.ledger.specs.declared.gather.Offer.{Offer}
 use Rattle.ledger.specs.declared.gather.Offer.the-variants.{Free as Nobody, Heard as Brings, Barred as Stops}
 use Rattle.ledger.specs.declared.gather.Gathered.{Gathered}
-use Rattle.ledger.specs.Lists.{omap, present, every, firstBar, weigh}
+use Rattle.ledger.specs.declared.afresh.Block.{Block}
+use Rattle.ledger.specs.declared.afresh.Block.the-variants.{Nothing, By}
+use Rattle.ledger.specs.declared.afresh.Tally.{Tally}
+use Rattle.ledger.specs.Lists.{omap, present, every, barAt, firstBar, weigh}
 use Rattle.ledger.specs.Changes.{Change, follow, barOf}
 
 -- ---- one receiver
@@ -81,7 +87,7 @@ abbrev pub seatedAt : Seat → ℕ → List (Option Held) → List (Option Held)
 seatedAt t j os = cond (t .used) (set os j (some (t .held))) os
 
 abbrev pub settled : Seat → ℕ → Book → Book
-settled t j b = book (b .sources) (seatedAt t j (b .receivers))
+settled t j b = book (b .sources) (seatedAt t j (b .receivers)) (b .walls)
 
 -- each used seat may be in the book
 pub record StandingSeats (ts : List Seat) : Type 0 where
@@ -94,11 +100,58 @@ abbrev pub offerBy : Pair → Offer
 offerBy (Heard h) = Brings h
 offerBy (Bars b) = Stops b
 
-abbrev pub offerOf : Receiver → Option Source → Offer
-offerOf r none = Nobody
-offerOf r (some s) = offerBy (pairOf s r)
+abbrev pub offerOf : Pairing → Receiver → Option Source → Offer
+offerOf pair r none = Nobody
+offerOf pair r (some s) = offerBy (pair s r)
 
 pub record Gathering (pair : Pairing) (r : Receiver) (l : List (Option Source)) (g : Gathered) : Type 0 where
   pub stop : g .stop ≡ stopOf (firstBar (λ (s : Source). pair s r) 0 l)
   pub sums : firstBar (λ (s : Source). pair s r) 0 l ≡ none → g .sums ≡ weigh pair (present l) r .sums
   pub sound : firstBar (λ (s : Source). pair s r) 0 l ≡ none → sound (g .sums) ≡ true
+
+-- ---- every account afresh: the seat of a receiver with the sums so far, and the first bar
+
+abbrev pub tally : Seat → Block → Tally
+tally t b = record { seat = t; block = b }
+
+abbrev pub begun : Option Held → Tally
+begun none = tally vacant Nothing
+begun (some x) = tally (toSeat (some (record { who = x .who; sums = nothing }))) Nothing
+
+-- the first bar stays
+abbrev pub orBlock : Block → Bar → Block
+orBlock Nothing b = By b
+orBlock (By a) b = By a
+
+-- with one source more
+abbrev pub heardBy : Pair → Tally → Tally
+heardBy (Heard h) t = tally (record { used = t .seat .used; held = record { who = t .seat .held .who; sums = plusOf (t .seat .held .sums) h } }) (t .block)
+heardBy (Bars b) t = tally (t .seat) (orBlock (t .block) b)
+
+abbrev pub heardFrom : Pairing → Source → Tally → Tally
+heardFrom pair s t = cond (t .seat .used) (heardBy (pair s (t .seat .held .who)) t) t
+
+-- and with all of them
+abbrev pub heardAll : Pairing → List Source → Tally → Tally
+heardAll pair [] t = t
+heardAll pair (s ∷ ss) t = heardAll pair ss (heardFrom pair s t)
+
+-- after n sources: the points are allowed, and no sum is above n shares
+pub record Counted (n : ℕ) (t : Tally) : Type 0 where
+  pub stands : t .seat .used ≡ true → receiverVerdict (t .seat .held .who) ≡ Allowed
+  pub day : t .seat .held .sums .day ≤ n * mostShare
+  pub evening : t .seat .held .sums .evening ≤ n * mostShare
+  pub night : t .seat .held .sums .night ≤ n * mostShare
+
+pub record Tallied (n : ℕ) (ts : List Tally) : Type 0 where
+  pub count : length ts ≡ receiverCount
+  pub each : (j : ℕ) → Counted n (getD ts j (tally vacant Nothing))
+
+-- the first that is blocked
+abbrev pub blockedOr : ℕ → Block → Option Refusal → Option Refusal
+blockedOr j Nothing o = o
+blockedOr j (By b) o = some (barAt j b)
+
+unfoldable pub firstBlock : ℕ → List Tally → Option Refusal
+firstBlock j [] = none
+firstBlock j (t ∷ ts) = blockedOr j (t .block) (firstBlock (suc j) ts)

@@ -5,11 +5,11 @@ use mathlib.Core.Bool.{Bool, true, _&&_}
 use mathlib.Core.Option.{Option, none, some}
 use mathlib.Core.List.{List, [], _∷_}
 use Rattle.answer.specs.declared.Refusal.{Refusal}
-use Rattle.answer.specs.declared.Refusal.the-variants.{TooNear, TooFar, TooLong, TooLoud}
+use Rattle.answer.specs.declared.Refusal.the-variants.{TooNear, TooFar, TooLong, TooLoud, TwoWalls}
 use Rattle.road.specs.declared.Source.{Source}
 use Rattle.road.specs.declared.Receiver.{Receiver}
 use Rattle.road.specs.declared.Bar.{Bar}
-use Rattle.road.specs.declared.Bar.the-variants.{Near, Far, Long, Loud}
+use Rattle.road.specs.declared.Bar.the-variants.{Near, Far, Long, Loud, Walls}
 use Rattle.road.specs.declared.Pair.{Pair}
 use Rattle.road.specs.declared.Pair.the-variants.{Heard, Barred}
 use Rattle.road.specs.Pairs.{Pairing, shareIn}
@@ -43,12 +43,13 @@ module _ {A : Type 0} where
 
 -- ---- the first bar
 
--- refusals 10 to 13, with the slot of the other party
+-- refusals 10 to 14, with the slot of the other party
 abbrev pub barAt : ℕ → Bar → Refusal
 barAt j Near = TooNear j
 barAt j Far = TooFar j
 barAt j Long = TooLong j
 barAt j Loud = TooLoud j
+barAt j Walls = TwoWalls j
 
 abbrev pub orBar : ℕ → Pair → Option Refusal → Option Refusal
 orBar j (Heard h) o = o

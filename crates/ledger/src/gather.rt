@@ -14,6 +14,7 @@ ghost use mathlib.Core.Option.{none};
 ghost use Prim.Native.Nat.{_<_};
 ghost use lib.ListN.{getD};
 ghost use Rattle.level.specs.Table.{table};
+ghost use Rattle.screen.specs.Screen.{wallsOf, Laid};
 ghost use Rattle.road.specs.declared.Verdict.the-variants.{Allowed};
 ghost use Rattle.road.specs.Reach.{pairOf};
 ghost use Rattle.road.specs.Judge.{receiverVerdict};
@@ -34,25 +35,25 @@ pub struct Gathered {
 }
 
 // What the source in a slot brings to a receiver.
-fn hear_source(steps: &[u32; 1000], store: &[u8], i: usize, r: Receiver) -> Offer
-    requires { ⌜ (now steps ≡ table) × (damaged (now store) ≡ false) × (i < sourceCount) × (receiverVerdict r ≡ Allowed) ⌝ }
-    ensures { λ o. ⌜ o ≡ offerOf r (getD (bookOf (now (store .entry)) .sources) i none) ⌝ }
+fn hear_source(steps: &[u32; 1000], walls: &[u64], store: &[u8], i: usize, r: Receiver) -> Offer
+    requires { ⌜ (now steps ≡ table) × (damaged (now store) ≡ false) × (i < sourceCount) × (receiverVerdict r ≡ Allowed) × Laid (now walls) ⌝ }
+    ensures { λ o. ⌜ o ≡ offerOf (pairOf (wallsOf (now (walls .entry)))) r (getD (bookOf (now (store .entry)) .sources) i none) ⌝ }
 {
     if !store::sources::marked(store, i) {
         return Offer::Free;
     }
     let s = store::sources::source_slot(store, i).source;
     let sent = road::emission::send(steps, s);
-    match reach::pair(steps, s, sent, r) {
+    match reach::pair(steps, walls, s, sent, r) {
         Pair::Heard(shares) => Offer::Heard(shares),
         Pair::Barred(bar) => Offer::Barred(bar),
     }
 }
 
-// What all standing sources bring to a receiver, from the lowest slot on.
-pub fn gather(steps: &[u32; 1000], store: &[u8], r: Receiver) -> Gathered
-    requires { ⌜ (now steps ≡ table) × (damaged (now store) ≡ false) × (receiverVerdict r ≡ Allowed) ⌝ }
-    ensures { λ g. ⌜ Gathering pairOf r (bookOf (now (store .entry)) .sources) g ⌝ }
+// What all standing sources bring to a receiver among walls, from the lowest slot on.
+pub fn gather(steps: &[u32; 1000], walls: &[u64], store: &[u8], r: Receiver) -> Gathered
+    requires { ⌜ (now steps ≡ table) × (damaged (now store) ≡ false) × (receiverVerdict r ≡ Allowed) × Laid (now walls) ⌝ }
+    ensures { λ g. ⌜ Gathering (pairOf (wallsOf (now (walls .entry)))) r (bookOf (now (store .entry)) .sources) g ⌝ }
 {
     let mut sums = Account {
         day: 0,
@@ -61,7 +62,7 @@ pub fn gather(steps: &[u32; 1000], store: &[u8], r: Receiver) -> Gathered
     };
     let mut i = 0;
     while i < store::SOURCES {
-        match hear_source(steps, store, i, r) {
+        match hear_source(steps, walls, store, i, r) {
             Offer::Free => {
                 i += 1;
             }

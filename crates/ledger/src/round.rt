@@ -13,6 +13,7 @@ ghost use mathlib.Core.Path.{_≡_};
 ghost use mathlib.Core.Bool.{true, false};
 ghost use Prim.Native.Nat.{_<_};
 ghost use Rattle.level.specs.Table.{table};
+ghost use Rattle.screen.specs.Screen.{wallsOf, Laid};
 ghost use Rattle.road.specs.declared.Verdict.the-variants.{Allowed};
 ghost use Rattle.road.specs.Judge.{sourceVerdict, receiverVerdict};
 ghost use Rattle.road.specs.Inner.{sentOf};
@@ -50,6 +51,7 @@ pub fn bar_at(slot: u16, bar: Bar) -> Refusal
         Bar::Far => Refusal::TooFar(slot),
         Bar::Long => Refusal::TooLong(slot),
         Bar::Loud => Refusal::TooLoud(slot),
+        Bar::Walls => Refusal::TwoWalls(slot),
     }
 }
 
@@ -86,13 +88,13 @@ fn lowered(sums: Account, p: Pair) -> Turn
 }
 
 // What becomes of a receiver.
-fn meet(steps: &[u32; 1000], x: Held, s: Source, sent: Sent, adding: bool) -> Turn
-    requires { ⌜ (now steps ≡ table) × (sourceVerdict s ≡ Allowed) × (sent ≡ sentOf s) × (receiverVerdict (x .who) ≡ Allowed) ⌝ }
-    ensures { λ r. ⌜ r ≡ turnOf (changeBy adding s) x ⌝ }
+fn meet(steps: &[u32; 1000], walls: &[u64], x: Held, s: Source, sent: Sent, adding: bool) -> Turn
+    requires { ⌜ (now steps ≡ table) × (sourceVerdict s ≡ Allowed) × (sent ≡ sentOf s) × (receiverVerdict (x .who) ≡ Allowed) × Laid (now walls) ⌝ }
+    ensures { λ r. ⌜ r ≡ turnOf (changeBy (wallsOf (now (walls .entry))) adding s) x ⌝ }
 {
     let who = x.who;
     let sums = x.sums;
-    let p = reach::pair(steps, s, sent, who);
+    let p = reach::pair(steps, walls, s, sent, who);
     if adding {
         return raised(sums, p);
     }
@@ -100,7 +102,7 @@ fn meet(steps: &[u32; 1000], x: Held, s: Source, sent: Sent, adding: bool) -> Tu
 }
 
 // A seat with nobody in it.
-fn vacant() -> Seat
+pub(crate) fn vacant() -> Seat
     ensures { λ r. ⌜ r ≡ vacant ⌝ }
 {
     Seat {
@@ -120,10 +122,17 @@ fn vacant() -> Seat
     }
 }
 
-// The first pass, from the lowest slot on.
-pub fn go_round(steps: &[u32; 1000], store: &[u8], s: Source, sent: Sent, adding: bool) -> Round
-    requires { ⌜ (now steps ≡ table) × (damaged (now store) ≡ false) × (sourceVerdict s ≡ Allowed) × (sent ≡ sentOf s) ⌝ }
-    ensures { λ r. ⌜ Rounded (changeBy adding s) (bookOf (now (store .entry)) .receivers) r ⌝ }
+// The first pass, among walls that are lent as numbers, from the lowest slot on.
+pub fn go_round(
+    steps: &[u32; 1000],
+    walls: &[u64],
+    store: &[u8],
+    s: Source,
+    sent: Sent,
+    adding: bool,
+) -> Round
+    requires { ⌜ (now steps ≡ table) × (damaged (now store) ≡ false) × (sourceVerdict s ≡ Allowed) × (sent ≡ sentOf s) × Laid (now walls) ⌝ }
+    ensures { λ r. ⌜ Rounded (changeBy (wallsOf (now (walls .entry))) adding s) (bookOf (now (store .entry)) .receivers) r ⌝ }
 {
     let empty = vacant();
     let mut seats = [empty; store::RECEIVERS];
@@ -133,7 +142,7 @@ pub fn go_round(steps: &[u32; 1000], store: &[u8], s: Source, sent: Sent, adding
         let seat = store::receivers::seat(store, j);
         let x = seat.held;
         if seat.used {
-            match meet(steps, x, s, sent, adding) {
+            match meet(steps, walls, x, s, sent, adding) {
                 Turn::Moved(sums) => {
                     let who = x.who;
                     let held = Held { who, sums };
@@ -178,7 +187,7 @@ fn settle(store: &mut [u8], j: usize, seat: Seat)
 // The second pass: the seats that are used are written.
 pub fn write_seats(store: &mut [u8], seats: [Seat; store::RECEIVERS])
     requires { ⌜ (damaged (now store) ≡ false) × StandingSeats seats ⌝ }
-    ensures { λ _. ⌜ (damaged (now (store .exit)) ≡ false) × (bookOf (now (store .exit)) ≡ book (bookOf (now (store .entry)) .sources) (seated seats (bookOf (now (store .entry)) .receivers))) ⌝ }
+    ensures { λ _. ⌜ (damaged (now (store .exit)) ≡ false) × (bookOf (now (store .exit)) ≡ book (bookOf (now (store .entry)) .sources) (seated seats (bookOf (now (store .entry)) .receivers)) (bookOf (now (store .entry)) .walls)) ⌝ }
 {
     let mut k = 0;
     while k < store::RECEIVERS {

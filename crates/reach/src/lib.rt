@@ -179,7 +179,7 @@ fn hear(
 }
 
 // A piece that is not cut, all of what is sent: the three shares, or the first bar.
-fn alone(steps: &[u32; 1000], walls: &[u32], sent: Sent, r: Receiver) -> Pair
+fn alone(steps: &[u32; 1000], walls: &[u64], sent: Sent, r: Receiver) -> Pair
     requires { ⌜ (now steps ≡ table) × Moderate (sent .voices) × (receiverVerdict r ≡ Allowed) × (sent .length ≡ lengthTerm (sent .whole .length)) × Laid (now walls) ⌝ }
     requires { ⌜ (sent .whole .x ≤ coordinate) × (sent .whole .y ≤ coordinate) × (1 ≤ sent .whole .length) × (sent .whole .length ≤ longest) ⌝ }
     ensures { λ a. ⌜ a ≡ pairOver (shareBy (wallsOf (now (walls .entry))) (sent .voices) r) (twoWalls (wallsOf (now (walls .entry))) r) r (sent .whole ∷ []) ⌝ }
@@ -272,7 +272,7 @@ fn join(a: Pair, b: Pair) -> Pair
 // same way.
 fn along(
     steps: &[u32; 1000],
-    walls: &[u32],
+    walls: &[u64],
     voices: [Voice; 3],
     whole: Piece,
     e: Ends,
@@ -318,7 +318,7 @@ fn along(
 }
 
 // A source and a receiver among walls, which are lent as numbers: the three shares, or the first bar.
-pub fn pair(steps: &[u32; 1000], walls: &[u32], s: Source, sent: Sent, r: Receiver) -> Pair
+pub fn pair(steps: &[u32; 1000], walls: &[u64], s: Source, sent: Sent, r: Receiver) -> Pair
     requires { ⌜ (now steps ≡ table) × (sourceVerdict s ≡ Allowed) × (sent ≡ sentOf s) × (receiverVerdict r ≡ Allowed) × Laid (now walls) ⌝ }
     ensures { λ p. ⌜ p ≡ pairOf (wallsOf (now (walls .entry))) s r ⌝ }
 {

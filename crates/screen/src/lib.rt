@@ -43,15 +43,15 @@ pub enum Loss {
 }
 
 // The wall whose numbers begin at an index.
-fn wall_at(walls: &[u32], at: usize) -> Wall
+fn wall_at(walls: &[u64], at: usize) -> Wall
     requires { ⌜ (at + 5 ≤ length (now walls)) × WallOnPlan (wallOf (drop at (now walls))) ⌝ }
     ensures { λ w. ⌜ w ≡ wallOf (drop at (now (walls .entry))) ⌝ }
 {
     let ends = Ends {
-        x1: walls[at],
-        y1: walls[at + 1],
-        x2: walls[at + 2],
-        y2: walls[at + 3],
+        x1: walls[at] as u32,
+        y1: walls[at + 1] as u32,
+        x2: walls[at + 2] as u32,
+        y2: walls[at + 3] as u32,
     };
     let height = walls[at + 4] as u16;
     Wall { ends, height }
@@ -80,7 +80,7 @@ fn look(p: Point, r: Point, met: Met, w: Wall) -> Met
 }
 
 // Which of the walls count between the middle p of a piece and the point r.
-pub fn meet(p: Point, r: Point, walls: &[u32]) -> Met
+pub fn meet(p: Point, r: Point, walls: &[u64]) -> Met
     requires { ⌜ OnPlan p × OnPlan r × Laid (now walls) ⌝ }
     ensures { λ m. ⌜ m ≡ metOf p r (wallsOf (now (walls .entry))) ⌝ }
 {
@@ -123,7 +123,7 @@ pub fn screened(
     height: u16,
     q0: u64,
     q: u64,
-    walls: &[u32],
+    walls: &[u64],
 ) -> Loss
     requires { ⌜ (now steps ≡ table) × OnPlan p × OnPlan r × Laid (now walls) ⌝ }
     requires { ⌜ (q0 ≡ planBetween (p .x) (p .y) (r .x) (r .y)) × Reaches height q0 q ⌝ }
