@@ -1,4 +1,4 @@
--- `damaged` looks at the length, then at the source slots, then at the receiver slots.
+-- `damaged` looks at the length, then at the source slots, the receiver slots and the wall slots.
 -- Assumes nothing.
 use Prim.Native.Nat.{ℕ}
 use mathlib.Core.Path.{_≡_, refl, sym, ap, _∙_}
