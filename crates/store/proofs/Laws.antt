@@ -9,7 +9,7 @@ use native.Mathlib.Numerals.{add-one}
 use native.Mathlib.Omega.{arith}
 use borrow.Author.Tests.{eqb-true, eq-eqb, not-false}
 use lib.Dec.{eqb}
-use lib.ListN.{length, getD, take, drop, set, replicate, length-append, length-set, length-replicate, drop-of-length-le, replicate-append-replicate}
+use lib.ListN.{length, getD, drop, set, replicate, length-append, length-set, length-replicate, drop-of-length-le, replicate-append-replicate}
 use lib.Seq.{drop-at, drop-cons}
 use Rattle.layout.specs.Layout.{Bytes}
 use Rattle.layout.specs.Over.{over}
