@@ -1,4 +1,4 @@
--- Laws of the store: of accounts, of slots for any party, of the two parties, and of bytes and book.
+-- Laws of the store: of accounts, of slots for any party, of the three parties, and of bytes and book.
 pub mod Accounts
 pub mod Slots
 pub mod Parties

@@ -1,4 +1,4 @@
--- Sources and receivers are parties that the laws of slots hold for. Assumes nothing.
+-- Sources, receivers and walls are parties that the laws of slots hold for. Assumes nothing.
 use Prim.Native.Nat.{ℕ, suc, _≤_}
 use mathlib.Core.Path.{_≡_, refl, sym, ap, ap₂, _∙_}
 use mathlib.Core.Bool.{Bool, true, false, _&&_, _||_}
@@ -11,17 +11,18 @@ use Rattle.layout.specs.Layout.{Within}
 use Rattle.layout.proofs.Bounds.{both}
 use Rattle.course.specs.declared.Course.{Course}
 use Rattle.course.specs.declared.Course.the-variants.{Uncut, Between}
+use Rattle.screen.specs.declared.Wall.{Wall}
 use Rattle.road.specs.declared.Source.{Source}
 use Rattle.road.specs.declared.Verdict.{Verdict}
 use Rattle.road.specs.declared.Verdict.the-variants.{Allowed, Refused}
-use Rattle.road.specs.Fields.{sourceTable, receiverTable, sourceOf, valuesBy, slotBitsBy}
-use Rattle.road.specs.Judge.{sourceVerdict, receiverVerdict}
+use Rattle.road.specs.Fields.{sourceTable, receiverTable, wallTable, sourceOf, valuesBy, slotBitsBy}
+use Rattle.road.specs.Judge.{sourceVerdict, receiverVerdict, wallVerdict}
 use Rattle.road.proofs.Rows.{source-again, source-values-again, all-of}
-use Rattle.road.proofs.Fit.{FitCourse, rest-allowed, source-in-slot, receiver-in-slot}
+use Rattle.road.proofs.Fit.{FitCourse, rest-allowed, source-in-slot, receiver-in-slot, wall-in-slot}
 use Rattle.store.specs.declared.Held.{Held}
 use Rattle.store.specs.Account.{sound}
 use Rattle.store.specs.Slots.{partyLayout}
-use Rattle.store.specs.Store.{isAllowed, courseNumbers, courseBits, isCourse, courseFrom, sourceFrom, sourceParty, heldFields, heldFrom, heldParty, SourceStands, HeldStands}
+use Rattle.store.specs.Store.{isAllowed, courseNumbers, courseBits, isCourse, courseFrom, sourceFrom, sourceParty, heldFields, heldFrom, heldParty, wallFrom, wallParty, SourceStands, HeldStands, WallStands}
 use Rattle.store.proofs.Accounts.{sound-le}
 use Rattle.store.proofs.Slots.{Lawful, two-within}
 
@@ -126,4 +127,20 @@ held-lawful =
       fits = held-fits;
       okay = λ h k i. isAllowed (k .0 i) && k .1 i;
       stands = held-stands;
+    }
+
+-- ---- walls
+
+pub wall-fits : (w : Wall) → WallStands w → Within (partyLayout wallParty) (1 ∷ valuesBy wallTable w)
+wall-fits w e = (omega arith, wall-in-slot w e)
+
+pub wall-lawful : Lawful wallParty WallStands
+wall-lawful =
+    record {
+      handled = refl;
+      refilled = λ m fs e o. all-of _ fs e;
+      reread = λ w e. refl;
+      fits = wall-fits;
+      okay = λ w e i. isAllowed (e i);
+      stands = λ vs e. allowed-is (wallVerdict (wallFrom vs)) e;
     }

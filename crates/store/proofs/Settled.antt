@@ -46,3 +46,15 @@ put-held-settled l a = settled _ _
 
 drop-held-settled : Settles (λ l a r e. now (e .0)) proofs.receivers.drop_held.Reads.Post
 drop-held-settled l a = settled _ _
+
+wall-marked-settled : SettlesResult proofs.walls.marked.Reads.Post
+wall-marked-settled l a = settled _ _
+
+wall-slot-settled : SettlesResult proofs.walls.wall_slot.Reads.Post
+wall-slot-settled l a = settled _ _
+
+put-wall-settled : Settles (λ l a r e. now (e .0)) proofs.walls.put_wall.Reads.Post
+put-wall-settled l a = settled _ _
+
+drop-wall-settled : Settles (λ l a r e. now (e .0)) proofs.walls.drop_wall.Reads.Post
+drop-wall-settled l a = settled _ _

@@ -11,14 +11,14 @@ use native.Mathlib.Numerals.{add-one}
 use native.Mathlib.Omega.{arith}
 use borrow.Author.Tests.{eqb-true, eq-eqb, ne-eqb}
 use lib.Dec.{eqb, lit<}
-use lib.ListN.{length, getD, take, drop, set, replicate, length-append, length-drop, length-replicate, replicate-append-replicate, drop-of-length-le}
+use lib.ListN.{length, getD, take, drop, set, replicate, length-append, length-drop, length-replicate, take-append-drop, replicate-append-replicate, drop-of-length-le}
 use lib.Seq.{length-take-le, take-all, take-at, drop-at, take-add, take-append-add, drop-append-add, drop-drop}
 use lib.Pow.{pow-pos}
-use Rattle.layout.specs.Layout.{Within, Bytes, size, sized, fields, packed}
+use Rattle.layout.specs.Layout.{Within, Bytes, size, sized, bits, fields, packed}
 use Rattle.layout.specs.Over.{over}
 use Rattle.layout.proofs.Numbers.{bytes-append, bytes-take, bytes-drop}
 use Rattle.layout.proofs.Bounds.{both}
-use Rattle.layout.proofs.Laws.{length-fields, fields-within, length-packed, packed-bytes, fields-packed, packed-fields, packed-zeros, fields-zeros}
+use Rattle.layout.proofs.Laws.{length-fields, fields-within, length-packed, packed-bytes, fields-packed, packed-fields, packed-zeros, fields-zeros, field-bits}
 use Rattle.road.specs.Fields.{Fit}
 use Rattle.road.proofs.Rows.{record-fit}
 use Rattle.store.specs.Slots.{Party, Slot, empty, used, torn, allZero, partyLayout, slotSize, slotBy, slotOf, slotBytes, isTorn, entryOf, slotAt, slots, entries, anyTorn, bytes, Each}
@@ -170,6 +170,15 @@ module _ {A : Type 0} (p : Party A) where
       unmarked : (l : List ℕ) → allZero l ≡ true → none ≡ cond (eqb (getD l 0 0) 1) (some (p .from vs)) none
       unmarked l e = sym (ap (λ (m : List ℕ). cond (eqb (getD m 0 0) 1) (some (p .from vs)) none) (all-zero l e) ∙ nought (length l))
 
+  -- the mark is the first eight bits
+  pub mark-is : (s : List ℕ) (at n : ℕ) → sized (partyLayout p) ≡ true → Bytes s → at + slotSize p ≤ length s
+      → n ≡ bits 0 8 (take (slotSize p) (drop at s)) → eqb n 1 ≡ eqb (getD (fields (partyLayout p) (take (slotSize p) (drop at s))) 0 0) 1
+  mark-is s at n h b l e =
+      let t = take (slotSize p) (drop at s) in
+      let k : length t ≡ slotSize p = length-take-le (slotSize p) (drop at s) (omega (arith, length-drop at s)) in
+      ap (λ (m : ℕ). eqb m 1)
+      (e ∙ sym (field-bits (partyLayout p) t 0 h (omega (arith, k)) (bytes-take (slotSize p) (drop at s) (bytes-drop at s b)) (omega arith)))
+
   module _ (Stands : A → Type 0) (law : Lawful p Stands) where
     -- numbers with the mark 1 are those of what they describe
     again : (vs : List ℕ) → length vs ≡ suc (length (p .widths)) → getD vs 0 0 ≡ 1 → p .ok vs ≡ true → 1 ∷ p .to (p .from vs) ≡ vs
@@ -217,6 +226,10 @@ module _ {A : Type 0} (p : Party A) where
         let y : p .from vs ≡ a = cc in
         subst Stands y (law .stands vs (w .1)))
         (whole vs h)
+
+-- who is in the slot at the front of bytes, as its mark says
+abbrev pub whoIn : {A : Type 0} → Party A → List ℕ → Option A
+whoIn p s = cond (eqb (getD (fields (partyLayout p) s) 0 0) 1) (some (p .from (fields (partyLayout p) s))) none
 
 -- ---- slots side by side
 
@@ -275,6 +288,15 @@ module _ {A : Type 0} (p : Party A) where
       ∙ whole-at n i (drop (slotSize p) s) (omega arith)
       (either-false (isTorn (slotOf p (take (slotSize p) s))) (anyTorn (slots p n (drop (slotSize p) s))) e .1)
 
+  -- slot i of what stands from index at on
+  pub place : (at i : ℕ) (s : List ℕ) → slotAt p i (drop at s) ≡ take (slotSize p) (drop (at + i * slotSize p) s)
+  place at i s = ap (take (slotSize p)) (drop-drop (i * slotSize p) at s)
+
+  -- where none is torn, the entry at i is what the mark of slot i says
+  pub entry-is : (n i : ℕ) (s : List ℕ) → i < n → anyTorn (slots p n s) ≡ false → getD (entries (slots p n s)) i none ≡ whoIn p (slotAt p i s)
+  unfolding slotOf
+  entry-is n i s h e = entry-at n i s h ∙ marked p _ (whole-at n i s h e)
+
   -- a write of a slot is a change of one entry
   pub set-bytes : (l : List (Option A)) (i : ℕ) (o : Option A) (rest : List ℕ) → i < length l
       → over (i * slotSize p) (slotBytes p o) (bytes p l ++ rest) ≡ bytes p (set l i o) ++ rest
@@ -289,6 +311,11 @@ module _ {A : Type 0} (p : Party A) where
       ∙ over-behind (slotBytes p q) (slotBytes p o) (bytes p l ++ rest) (slotSize p) (i * slotSize p) (length-slot p q)
       ∙ ap (λ (s : List ℕ). slotBytes p q ++ s) (set-bytes l i o rest (omega arith))
       ∙ sym (append-assoc (slotBytes p q) (bytes p (set l i o)) rest)
+
+  pub set-behind : (x : List ℕ) (at : ℕ) (l : List (Option A)) (i : ℕ) (o : Option A) (rest : List ℕ) → length x ≡ at → i < length l
+      → over (at + i * slotSize p) (slotBytes p o) (x ++ (bytes p l ++ rest)) ≡ x ++ (bytes p (set l i o) ++ rest)
+  set-behind x at l i o rest e h =
+      over-behind x (slotBytes p o) (bytes p l ++ rest) at (i * slotSize p) e ∙ ap (λ (s : List ℕ). x ++ s) (set-bytes l i o rest h)
 
   -- n slots without a tear are the bytes of their entries
   module _ (Stands : A → Type 0) (law : Lawful p Stands) where
@@ -306,6 +333,15 @@ module _ {A : Type 0} (p : Party A) where
         ap₂ (λ (a : List ℕ) (z : List ℕ). a ++ z) (rewritten p Stands law c e (bytes-take w s b) (t .0))
         (bytes-slots n (drop w s) k (bytes-drop w s b) (t .1))
         ∙ sym (take-add w (n * w) s) ∙ ap (λ (x : ℕ). take x s) (sym m)
+
+    -- from index at on they fill a store up to where the next begin
+    pub part-bytes : (n at end : ℕ) (s : List ℕ) → at + n * slotSize p ≡ end → end ≤ length s → Bytes s → anyTorn (slots p n (drop at s)) ≡ false
+        → bytes p (entries (slots p n (drop at s))) ++ drop end s ≡ drop at s
+    part-bytes n at end s e l b h =
+        let w = n * slotSize p in
+        let k : w ≤ length (drop at s) = rw (length-drop at s) (omega arith) in
+        ap₂ (λ (x y : List ℕ). x ++ y) (bytes-slots n (drop at s) k (bytes-drop at s b) h) (sym (drop-drop w at s ∙ ap (λ (m : ℕ). drop m s) e))
+        ∙ take-append-drop w (drop at s)
 
     -- and entries that stand are read again from their bytes
     read-slot : (o : Option A) → ((a : A) → o ≡ some a → Stands a)
@@ -330,6 +366,13 @@ module _ {A : Type 0} (p : Party A) where
           ap₂ (λ (x y : List ℕ). entryOf (slotOf p x) ∷ entries (slots p (length l) y)) t d
               ∙ ap₂ (λ (x : Option A) (y : List (Option A)). x ∷ y) (r .1) (q .1),
         )
+
+    pub part-read : (l : List (Option A)) (n : ℕ) (s rest : List ℕ) → Each Stands l → length l ≡ n → s ≡ bytes p l ++ rest
+        → (anyTorn (slots p n s) ≡ false) × (entries (slots p n s) ≡ l)
+    part-read l n s rest h e d =
+        let q = slots-bytes l rest h in
+        let r : slots p n s ≡ slots p (length l) (bytes p l ++ rest) = ap₂ (slots p) (sym e) d in
+        (ap anyTorn r ∙ q .0, ap entries r ∙ q .1)
 
     pub entries-stand : (n : ℕ) (s : List ℕ) → anyTorn (slots p n s) ≡ false → Each Stands (entries (slots p n s))
     unfolding slots anyTorn slotOf

@@ -1,12 +1,14 @@
-// The book's state as bytes that the caller lends (docs/STORE.md): source slots, then receiver slots with their accounts.
+// The book's state as bytes that the caller lends (docs/STORE.md): source slots, then receiver slots with their accounts, then wall slots.
 // specs/Store.antt says what book stands in the bytes and what damage is; the parts here read and write one slot.
 pub mod receivers;
 mod slot;
 pub mod sources;
+pub mod walls;
 
 use road::Receiver;
 use road::Shares;
 use road::Source;
+use screen::Wall;
 ghost use mathlib.Core.Path.{_≡_};
 ghost use mathlib.Core.Bool.{true};
 ghost use lib.ListN.{length};
@@ -17,26 +19,35 @@ ghost use Rattle.level.specs.Level.{top};
 ghost use Rattle.store.specs.Account.{sound, plusOf, minusOf, covers, room};
 ghost use Rattle.store.specs.Store.{storeLength, damaged, clearedBytes};
 
-// How many source slots and how many receiver slots a book has.
+// How many source slots, receiver slots and wall slots a book has.
 pub const SOURCES: usize = 512;
 
 pub const RECEIVERS: usize = 64;
+
+pub const WALLS: usize = 64;
 
 // The bytes of a slot: its mark's, those of the fields in road's tables, and a receiver's sums.
 pub const SOURCE_SIZE: usize = 40;
 
 pub const RECEIVER_SIZE: usize = 33;
 
+pub const WALL_SIZE: usize = 15;
+
 // The last slots, from slot 0 on.
 pub const LAST_SOURCE: u16 = (SOURCES - 1) as u16;
 
 pub const LAST_RECEIVER: u16 = (RECEIVERS - 1) as u16;
 
+pub const LAST_WALL: u16 = (WALLS - 1) as u16;
+
 // Where the receivers begin.
 pub const SPLIT: usize = SOURCES * SOURCE_SIZE;
 
+// And the walls.
+pub const WALLS_BEGIN: usize = SPLIT + RECEIVERS * RECEIVER_SIZE;
+
 // The bytes of a store.
-pub const LENGTH: usize = SPLIT + RECEIVERS * RECEIVER_SIZE;
+pub const LENGTH: usize = WALLS_BEGIN + WALLS * WALL_SIZE;
 
 // The most that a sum may be.
 const TOP: u64 = 512_000_000_000_000_000;
@@ -64,6 +75,12 @@ pub struct SourceSlot {
 pub struct Seat {
     pub used: bool,
     pub held: Held,
+}
+
+// A wall slot as it is read.
+pub struct WallSlot {
+    pub used: bool,
+    pub wall: Wall,
 }
 
 // Whether two numbers add up to at most TOP.
@@ -134,7 +151,10 @@ pub fn damaged(steps: &[u32; 1000], store: &[u8]) -> bool
     if sources::any_torn(steps, store) {
         return true;
     }
-    receivers::any_torn(store)
+    if receivers::any_torn(store) {
+        return true;
+    }
+    walls::any_torn(store)
 }
 
 // Makes every byte 0.

@@ -9,8 +9,7 @@ use denote.Ref.{now}
 use lib.ListN.{drop}
 use Rattle.store.specs.Slots.{partyLayout, slotBy, slotOf, isTorn}
 use Rattle.store.specs.Store.{receiverCount, receiverSlots, split, heldParty, receiverAt}
-use Rattle.store.proofs.Slots.{Sought, fields-fit, seek-start, seek-hit, seek-on, seek-end}
-use Rattle.store.proofs.Laws.{seat-place}
+use Rattle.store.proofs.Slots.{Sought, fields-fit, place, seek-start, seek-hit, seek-on, seek-end}
 use Rattle.store.proofs.receivers.any_torn.Statement.{statement}
 use Rattle.store.proofs.receivers.any_torn.Tie as tie
 
@@ -38,7 +37,7 @@ returns c =
     let l = c .before .before .before .before .before in
     let z = l .before .before in
     let s = now (z .args .store) in
-    let e = ap (λ (t : List ℕ). isTorn (slotOf heldParty t)) (seat-place (l .loop .j) s) ∙ ap (λ (v : List ℕ). isTorn (slotBy heldParty v)) (sym (c .before .before .before .numbers .ensures)) ∙ sym (c .before .torn .ensures) ∙ c .if1 .taken in
+    let e = ap (λ (t : List ℕ). isTorn (slotOf heldParty t)) (place heldParty split (l .loop .j) s) ∙ ap (λ (v : List ℕ). isTorn (slotBy heldParty v)) (sym (c .before .before .before .numbers .ensures)) ∙ sym (c .before .torn .ensures) ∙ c .if1 .taken in
     seek-hit heldParty receiverSlots (drop split s) (l .loop .j) (omega arith) (l .loop .inv) e
 
 add-j : tie.Need-add-j Inv-loop μ-loop
@@ -53,7 +52,7 @@ loop-again c =
     let l = c .before .before .before .before .before in
     let z = l .before .before in
     let s = now (z .args .store) in
-    let e = ap (λ (t : List ℕ). isTorn (slotOf heldParty t)) (seat-place (l .loop .j) s) ∙ ap (λ (v : List ℕ). isTorn (slotBy heldParty v)) (sym (c .before .before .before .numbers .ensures)) ∙ sym (c .before .torn .ensures) ∙ c .if1 .left in
+    let e = ap (λ (t : List ℕ). isTorn (slotOf heldParty t)) (place heldParty split (l .loop .j) s) ∙ ap (λ (v : List ℕ). isTorn (slotBy heldParty v)) (sym (c .before .before .before .numbers .ensures)) ∙ sym (c .before .torn .ensures) ∙ c .if1 .left in
     seek-on heldParty receiverSlots (drop split s) (l .loop .j) (omega arith) (l .loop .inv) e
 
 returns-2 : tie.Need-returns-2 Inv-loop μ-loop
