@@ -1,7 +1,7 @@
 -- What becomes of a receiver on a source's round, the seats as they would be, what the sources bring to a receiver, and every account
 -- afresh.
 -- The book's calls are told without these values: a reader of the promises can pass over this file.
-use Prim.Native.Nat.{ℕ, suc, _*_, _≤_}
+use Prim.Native.Nat.{ℕ, suc, _+_, _≤_}
 use mathlib.Core.Path.{_≡_}
 use mathlib.Core.Bool.{true, false, cond, not}
 use mathlib.Core.Option.{Option, none, some}
@@ -17,6 +17,7 @@ use Rattle.road.specs.declared.Pair.the-variants.{Barred as Bars}
 use Rattle.road.specs.Pairs.{Pairing, mostShare}
 use Rattle.road.specs.declared.Verdict.the-variants.{Allowed}
 use Rattle.road.specs.Judge.{receiverVerdict}
+use Rattle.level.specs.Level.{top}
 use Rattle.store.specs.declared.Account.{Account}
 use Rattle.store.specs.declared.Held.{Held}
 use Rattle.store.specs.declared.Seat.{Seat}
@@ -131,21 +132,26 @@ heardBy (Bars b) t = tally (t .seat) (orBlock (t .block) b)
 abbrev pub heardFrom : Pairing → Source → Tally → Tally
 heardFrom pair s t = cond (t .seat .used) (heardBy (pair s (t .seat .held .who)) t) t
 
--- and with all of them
+-- all of them with the source of a slot more
+abbrev pub heardAt : Pairing → Option Source → List Tally → List Tally
+heardAt pair none ts = ts
+heardAt pair (some s) ts = map (heardFrom pair s) ts
+
+-- and one with all sources
 abbrev pub heardAll : Pairing → List Source → Tally → Tally
 heardAll pair [] t = t
 heardAll pair (s ∷ ss) t = heardAll pair ss (heardFrom pair s t)
 
--- after n sources: the points are allowed, and no sum is above n shares
-pub record Counted (n : ℕ) (t : Tally) : Type 0 where
+-- a point that is allowed, with room for one share more
+pub record Ready (t : Tally) : Type 0 where
   pub stands : t .seat .used ≡ true → receiverVerdict (t .seat .held .who) ≡ Allowed
-  pub day : t .seat .held .sums .day ≤ n * mostShare
-  pub evening : t .seat .held .sums .evening ≤ n * mostShare
-  pub night : t .seat .held .sums .night ≤ n * mostShare
+  pub day : t .seat .held .sums .day + mostShare ≤ top
+  pub evening : t .seat .held .sums .evening + mostShare ≤ top
+  pub night : t .seat .held .sums .night + mostShare ≤ top
 
-pub record Tallied (n : ℕ) (ts : List Tally) : Type 0 where
+pub record AllReady (ts : List Tally) : Type 0 where
   pub count : length ts ≡ receiverCount
-  pub each : (j : ℕ) → Counted n (getD ts j (tally vacant Nothing))
+  pub each : (j : ℕ) → Ready (getD ts j (begun none))
 
 -- the first that is blocked
 abbrev pub blockedOr : ℕ → Block → Option Refusal → Option Refusal

@@ -1,13 +1,15 @@
 // The standing walls of a book as numbers, five for each, gathered once for a call: as they are, or as they would be with one slot changed.
-// What they are is `laid` of the crate screen.
+// What the numbers are is `laid` of the crate screen.
+use road::fields;
 use screen::Wall;
 use store::WallSlot;
 ghost use mathlib.Core.Path.{_≡_};
-ghost use mathlib.Core.Bool.{true, false, cond};
-ghost use mathlib.Core.Option.{none, some};
-ghost use Prim.Native.Nat.{_+_, _*_, _≤_, _<_};
-ghost use lib.ListN.{take, drop, set};
-ghost use Rattle.screen.specs.Screen.{laid};
+ghost use mathlib.Core.Bool.{false};
+ghost use mathlib.Core.Option.{none};
+ghost use Prim.Native.Nat.{_+_, _≤_, _<_};
+ghost use lib.ListN.{length, getD, take, set};
+ghost use Rattle.layout.specs.Over.{over};
+ghost use Rattle.screen.specs.Screen.{wallNumbers, laid};
 ghost use Rattle.store.specs.Store.{wallCount, damaged, bookOf, wallSlotEntry};
 ghost use Rattle.ledger.specs.Lists.{present};
 
@@ -15,19 +17,15 @@ ghost use Rattle.ledger.specs.Lists.{present};
 pub const NUMBERS: usize = store::WALLS * screen::NUMBERS;
 
 // Writes the numbers of a wall at an index.
-fn lay_wall(w: Wall, numbers: &mut [u32; NUMBERS], at: usize)
-    requires { ⌜ at + 5 ≤ 320 ⌝ }
-    ensures { λ _. ⌜ take (at + 5) (now (numbers .exit)) ≡ take at (now (numbers .entry)) ++ wallNumbers w ⌝ }
+fn lay_wall(w: Wall, numbers: &mut [u64], at: usize)
+    requires { ⌜ at + 5 ≤ length (now numbers) ⌝ }
+    ensures { λ _. ⌜ now (numbers .exit) ≡ over at (wallNumbers w) (now (numbers .entry)) ⌝ }
 {
-    let e = w.ends;
-    numbers[at] = e.x1;
-    numbers[at + 1] = e.y1;
-    numbers[at + 2] = e.x2;
-    numbers[at + 3] = e.y2;
-    numbers[at + 4] = w.height as u32;
+    let values = fields::wall_values(w);
+    layout::lay(&values, numbers, at);
 }
 
-// Slot k, which is to be another one where it is the slot that changes.
+// Slot k; where it is the slot that changes, as it is to be.
 fn slot_at(store: &[u8], k: usize, changes: usize, other: WallSlot) -> WallSlot
     requires { ⌜ (damaged (now store) ≡ false) × (k < wallCount) ⌝ }
     ensures { λ t. ⌜ wallSlotEntry t ≡ getD (set (bookOf (now (store .entry)) .walls) changes (wallSlotEntry other)) k none ⌝ }
@@ -38,11 +36,11 @@ fn slot_at(store: &[u8], k: usize, changes: usize, other: WallSlot) -> WallSlot
     store::walls::wall_slot(store, k)
 }
 
-// Gathers the standing walls, the slot that changes as it is to be; there is no slot WALLS, so that with it nothing changes.
-// It tells how many numbers they have.
-pub fn gather(store: &[u8], changes: usize, other: WallSlot, numbers: &mut [u32; NUMBERS]) -> usize
-    requires { ⌜ damaged (now store) ≡ false ⌝ }
-    ensures { λ n. ⌜ (n ≤ 320) × (take n (now (numbers .exit)) ≡ laid (present (set (bookOf (now (store .entry)) .walls) changes (wallSlotEntry other)))) ⌝ }
+// Gathers the standing walls, the slot that changes as it is to be, and tells how many numbers they have. Where the slot that changes is
+// none of the book's, they are as they stand.
+pub fn gather(store: &[u8], changes: usize, other: WallSlot, numbers: &mut [u64]) -> usize
+    requires { ⌜ (damaged (now store) ≡ false) × (length (now numbers) ≡ 320) ⌝ }
+    ensures { λ n. ⌜ (n ≤ 320) × (length (now (numbers .exit)) ≡ 320) × (take n (now (numbers .exit)) ≡ laid (present (set (bookOf (now (store .entry)) .walls) changes (wallSlotEntry other)))) ⌝ }
 {
     let mut at = 0;
     let mut k = 0;
