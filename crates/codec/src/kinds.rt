@@ -307,7 +307,11 @@ pub fn verdict(steps: &[u32; 1000], call: Request, source: Source) -> Verdict
             Verdict::Allowed,
         ),
         Request::Ask(slot) => judge::judge_slot(LAST_NAMED_RECEIVER, slot, Verdict::Allowed),
-        Request::PlaceWall(slot, w) => judge::judge_slot(LAST_NAMED_WALL, slot, judge::judge_wall(w)),
+        Request::PlaceWall(slot, w) => judge::judge_slot(
+            LAST_NAMED_WALL,
+            slot,
+            judge::judge_wall(w),
+        ),
         Request::WithdrawWall(slot) => judge::judge_slot(LAST_NAMED_WALL, slot, Verdict::Allowed),
     }
 }
