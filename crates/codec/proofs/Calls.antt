@@ -1,10 +1,11 @@
 -- The laws of each kind: the fields of a call are those that its kind reads back as the call, and fields that are read are those of their call.
 -- A new kind is a new clause of each law. Assumes nothing.
-use Prim.Native.Nat.{ℕ, zero, suc, _+_, _≤_, _<_}
+use Prim.Native.Nat.{ℕ, zero, suc, _+_, _-_, _^_, _≤_, _<_}
 use mathlib.Core.Path.{_≡_, refl, sym, ap, _∙_, subst⁻¹}
 use mathlib.Core.List.{List, [], _∷_, _++_}
 use native.Mathlib.Omega.{arith}
 use lib.Dec.{lit<}
+use lib.Pow.{pow-pos}
 use lib.ListN.{length, take, drop, length-drop, take-append-drop}
 use lib.Seq.{getD-drop, drop-cons, length-take-le}
 use Rattle.layout.specs.Layout.{size, packed, Within}
@@ -14,21 +15,21 @@ use Rattle.course.specs.declared.Course.the-variants.{Uncut, Between}
 use Rattle.road.specs.declared.Source.{Source}
 use Rattle.road.specs.declared.Verdict.{Verdict}
 use Rattle.road.specs.declared.Verdict.the-variants.{Allowed}
-use Rattle.road.proofs.Fit.{past, fit-course, rest-allowed, piece-within, ends-within, source-within, receiver-within}
+use Rattle.road.proofs.Fit.{past, fit-course, rest-allowed, piece-within, ends-within, source-within, receiver-within, wall-within}
 use Rattle.road.proofs.Judged.{slot-allowed}
 use Rattle.road.proofs.Rows as rows
 use Rattle.road.proofs.Rows.{upto, all-of, upto-take, source-values-again}
-use Rattle.road.specs.Fields.{pieceTable, endsTable, lengthTable, receiverTable, bitsBy, valuesBy, sourceTable, pieceOf, endsOf, sourceOf}
-use Rattle.road.specs.Judge.{receiverFields, sourceFields, unlessOutside, courseVerdict, restVerdict, sourceVerdict, receiverVerdict}
+use Rattle.road.specs.Fields.{pieceTable, endsTable, lengthTable, receiverTable, wallTable, bitsBy, valuesBy, sourceTable, pieceOf, endsOf, sourceOf}
+use Rattle.road.specs.Judge.{receiverFields, wallFields, sourceFields, unlessOutside, courseVerdict, restVerdict, sourceVerdict, receiverVerdict, wallVerdict, slotVerdict}
 use Rattle.daily.specs.Daily.{dailyBits, dailyFields, dailyVerdict}
 use Rattle.daily.proofs.Laws.{daily-within}
 use Rattle.codec.specs.declared.Counts.the-variants.{ByPeriod, ByDay}
 use Rattle.codec.specs.declared.Request.{Request}
-use Rattle.codec.specs.declared.Request.the-variants.{PlaceReceiver, WithdrawReceiver, PlaceSource, WithdrawSource, Ask}
+use Rattle.codec.specs.declared.Request.the-variants.{PlaceReceiver, WithdrawReceiver, PlaceSource, WithdrawSource, Ask, PlaceWall, WithdrawWall}
 use Rattle.codec.specs.Record.{recordOf}
 use Rattle.codec.specs.Inner.{filled, firstOf}
 use Rattle.codec.proofs.Laws.{first-filled}
-use Rattle.codec.specs.Kinds.{lastNamedSource, lastNamedReceiver, at, kindAt, layoutOf, callIn, sourceIn, leftoverOf, verdictOf, courseKind, kindNumber, placedFields, fieldsOf, sourceWith}
+use Rattle.codec.specs.Kinds.{kindBits, sourceSlotBits, receiverSlotBits, wallSlotBits, lastNamedSource, at, kindAt, layoutOf, callIn, sourceIn, leftoverOf, verdictOf, courseKind, kindNumber, placedFields, fieldsOf, sourceWith}
 
 -- ---- an allowed call has fields that fit
 
@@ -44,13 +45,17 @@ placed-within (Between d) slot s h e =
     let r = within-append (bitsBy sourceTable) (sourceFields s) (1 ∷ []) (0 ∷ []) w (lit< tt, tt) in
     (lit< tt, (omega arith, within-append (bitsBy endsTable) (valuesBy endsTable d) (bitsBy sourceTable ++ (1 ∷ [])) (sourceFields s ++ (0 ∷ [])) (ends-within d (unlessOutside lengthTable d (restVerdict s)) e) r))
 
+-- a slot that is allowed, fields that fit if they are, and leftover bits, which are zero
+slot-within : (k b left slot : ℕ) (ws fs : List ℕ) (v : Verdict) → k < 2 ^ kindBits → (v ≡ Allowed → Within ws fs) → slotVerdict (2 ^ b - 1) slot v ≡ Allowed
+    → Within (kindBits ∷ b ∷ (ws ++ (left ∷ []))) (k ∷ slot ∷ (fs ++ (0 ∷ [])))
+slot-within k b left slot ws fs v h w e =
+    let a = slot-allowed (2 ^ b - 1) slot v e in
+    (h, (omega (arith, pow-pos b, a .0), within-append ws fs (left ∷ []) (0 ∷ []) (w (a .1)) (pow-pos left, tt)))
+
 pub call-within : (c : Request) (s : Source) → verdictOf c s ≡ Allowed → Within (layoutOf (kindNumber c s)) (fieldsOf c s)
 unfolding kindAt verdictOf sourceVerdict dailyVerdict
-call-within (PlaceReceiver slot r) s e =
-    let a = slot-allowed lastNamedReceiver slot (receiverVerdict r) e in
-    let w = receiver-within r (a .1) in
-    (lit< tt, (omega (arith, a .0), within-append (bitsBy receiverTable) (receiverFields r) (5 ∷ []) (0 ∷ []) w (lit< tt, tt)))
-call-within (WithdrawReceiver slot) s e = (lit< tt, (omega (arith, slot-allowed lastNamedReceiver slot Allowed e .0), (lit< tt, tt)))
+call-within (PlaceReceiver slot r) s e = slot-within 1 receiverSlotBits 5 slot (bitsBy receiverTable) (receiverFields r) (receiverVerdict r) (lit< tt) (receiver-within r) e
+call-within (WithdrawReceiver slot) s e = slot-within 2 receiverSlotBits 6 slot [] [] Allowed (lit< tt) (λ a. tt) e
 call-within (PlaceSource slot ByPeriod) s e =
     let a = slot-allowed lastNamedSource slot (sourceVerdict s) e in
     placed-within (s .course) slot s (a .0) (a .1)
@@ -58,8 +63,10 @@ call-within (PlaceSource slot (ByDay p d)) s e =
     let a = slot-allowed lastNamedSource slot (dailyVerdict (Uncut p) d s) e in
     let r = within-append dailyBits (dailyFields d s) (2 ∷ []) (0 ∷ []) (daily-within (Uncut p) d s (a .1)) (lit< tt, tt) in
     (lit< tt, (omega (arith, a .0), within-append (bitsBy pieceTable) (valuesBy pieceTable p) (dailyBits ++ (2 ∷ [])) (dailyFields d s ++ (0 ∷ [])) (piece-within p _ (a .1)) r))
-call-within (WithdrawSource slot) s e = (lit< tt, (omega (arith, slot-allowed lastNamedSource slot Allowed e .0), (lit< tt, tt)))
-call-within (Ask slot) s e = (lit< tt, (omega (arith, slot-allowed lastNamedReceiver slot Allowed e .0), (lit< tt, tt)))
+call-within (WithdrawSource slot) s e = slot-within 4 sourceSlotBits 3 slot [] [] Allowed (lit< tt) (λ a. tt) e
+call-within (Ask slot) s e = slot-within 5 receiverSlotBits 6 slot [] [] Allowed (lit< tt) (λ a. tt) e
+call-within (PlaceWall slot w) s e = slot-within 8 wallSlotBits 3 slot (bitsBy wallTable) (wallFields w) (wallVerdict w) (lit< tt) (wall-within w) e
+call-within (WithdrawWall slot) s e = slot-within 9 wallSlotBits 6 slot [] [] Allowed (lit< tt) (λ a. tt) e
 
 -- ---- from a call to its fields and back
 
@@ -76,6 +83,8 @@ call-length (PlaceSource slot ByPeriod) s = placed-length (s .course) slot s
 call-length (PlaceSource slot (ByDay p d)) s = refl
 call-length (WithdrawSource slot) s = refl
 call-length (Ask slot) s = refl
+call-length (PlaceWall slot w) s = refl
+call-length (WithdrawWall slot) s = refl
 
 placed-listed : (c : Course) → 0 < size (layoutOf (courseKind c))
 unfolding kindAt
@@ -90,6 +99,8 @@ call-listed (PlaceSource slot ByPeriod) s = placed-listed (s .course)
 call-listed (PlaceSource slot (ByDay p d)) s = lit< tt
 call-listed (WithdrawSource slot) s = lit< tt
 call-listed (Ask slot) s = lit< tt
+call-listed (PlaceWall slot w) s = lit< tt
+call-listed (WithdrawWall slot) s = lit< tt
 
 placed-kind : (c : Course) (slot : ℕ) (rest : List ℕ) → at (placedFields c slot rest) 0 ≡ courseKind c
 placed-kind (Uncut p) slot rest = refl
@@ -102,6 +113,8 @@ call-kind (PlaceSource slot ByPeriod) s = placed-kind (s .course) slot (sourceFi
 call-kind (PlaceSource slot (ByDay p d)) s = refl
 call-kind (WithdrawSource slot) s = refl
 call-kind (Ask slot) s = refl
+call-kind (PlaceWall slot w) s = refl
+call-kind (WithdrawWall slot) s = refl
 
 placed-leftover : (c : Course) (slot : ℕ) (s : Source) → leftoverOf (courseKind c) (placedFields c slot (sourceFields s)) ≡ 0
 unfolding kindAt
@@ -116,6 +129,8 @@ call-leftover (PlaceSource slot ByPeriod) s = placed-leftover (s .course) slot s
 call-leftover (PlaceSource slot (ByDay p d)) s = refl
 call-leftover (WithdrawSource slot) s = refl
 call-leftover (Ask slot) s = refl
+call-leftover (PlaceWall slot w) s = refl
+call-leftover (WithdrawWall slot) s = refl
 
 placed-again : (c : Course) (slot : ℕ) (rest : List ℕ) → callIn (courseKind c) (placedFields c slot rest) ≡ PlaceSource slot ByPeriod
 unfolding kindAt
@@ -130,6 +145,8 @@ call-again (PlaceSource slot ByPeriod) s = placed-again (s .course) slot (source
 call-again (PlaceSource slot (ByDay p d)) s = refl
 call-again (WithdrawSource slot) s = refl
 call-again (Ask slot) s = refl
+call-again (PlaceWall slot w) s = refl
+call-again (WithdrawWall slot) s = refl
 
 placed-source : (c : Course) (slot : ℕ) (s : Source) → sourceIn (courseKind c) (placedFields c slot (sourceFields s)) ≡ sourceOf c (sourceFields s)
 unfolding kindAt
@@ -144,6 +161,8 @@ source-again (PlaceSource slot ByPeriod) s h = placed-source (s .course) slot s 
 source-again (PlaceSource slot (ByDay p d)) s h = refl
 source-again (WithdrawSource slot) s h = refl
 source-again (Ask slot) s h = refl
+source-again (PlaceWall slot w) s h = refl
+source-again (WithdrawWall slot) s h = refl
 
 -- a source counts only beside a call that places it
 pub verdict-with : (c : Request) (s : Source) → verdictOf c (sourceWith c s) ≡ verdictOf c s
@@ -154,6 +173,8 @@ verdict-with (PlaceSource slot ByPeriod) s = refl
 verdict-with (PlaceSource slot (ByDay p d)) s = refl
 verdict-with (WithdrawSource slot) s = refl
 verdict-with (Ask slot) s = refl
+verdict-with (PlaceWall slot w) s = refl
+verdict-with (WithdrawWall slot) s = refl
 
 -- ---- the fields of a call in the writer's array
 
@@ -180,7 +201,9 @@ kind-again (suc (suc (suc (suc zero)))) slot v h = refl
 kind-again (suc (suc (suc (suc (suc zero))))) slot v h = refl
 kind-again (suc (suc (suc (suc (suc (suc zero)))))) slot v h = refl
 kind-again (suc (suc (suc (suc (suc (suc (suc zero))))))) slot v h = refl
-kind-again (suc (suc (suc (suc (suc (suc (suc (suc k)))))))) slot v h = absurd (omega arith)
+kind-again (suc (suc (suc (suc (suc (suc (suc (suc zero)))))))) slot v h = refl
+kind-again (suc (suc (suc (suc (suc (suc (suc (suc (suc zero))))))))) slot v h = refl
+kind-again (suc (suc (suc (suc (suc (suc (suc (suc (suc (suc k)))))))))) slot v h = absurd (omega arith)
 
 -- n fields and the leftover bits, which are zero
 left-over : (n : ℕ) (v : List ℕ) → length v ≡ suc n → at v n ≡ 0 → upto (at v) n ++ (0 ∷ []) ≡ v
@@ -226,4 +249,6 @@ fields-again (suc (suc (suc (suc (suc (suc zero)))))) v h l e f =
     begun 6 v 15 l e (front-over (length pieceTable) (length dailyBits) (drop 2 v) (after 6 v 15 l e) (getD-drop 2 v 14 0 ∙ f))
 fields-again (suc (suc (suc (suc (suc (suc (suc zero))))))) v h l e f =
     begun 7 v 20 l e (front-over (length endsTable) (length sourceTable) (drop 2 v) (after 7 v 20 l e) (getD-drop 2 v 19 0 ∙ f))
-fields-again (suc (suc (suc (suc (suc (suc (suc (suc k)))))))) v h l e f = absurd (omega arith)
+fields-again (suc (suc (suc (suc (suc (suc (suc (suc zero)))))))) v h l e f = begun-over 8 v (length wallTable) l e f
+fields-again (suc (suc (suc (suc (suc (suc (suc (suc (suc zero))))))))) v h l e f = begun-over 9 v 0 l e f
+fields-again (suc (suc (suc (suc (suc (suc (suc (suc (suc (suc k)))))))))) v h l e f = absurd (omega arith)

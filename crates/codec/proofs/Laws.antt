@@ -248,18 +248,20 @@ module _ (call : Request) (source : Source) (out : List ℕ) where
 
 -- ---- the kinds that the code does not name
 
-pub ask-else : (k slot : ℕ) (v : List ℕ) → (k ≡ 1 → ⊥) → (k ≡ 2 → ⊥) → (k ≡ 3 → ⊥) → (k ≡ 4 → ⊥) → (k ≡ 6 → ⊥) → (k ≡ 7 → ⊥)
+pub ask-else : (k slot : ℕ) (v : List ℕ) → (k ≡ 1 → ⊥) → (k ≡ 2 → ⊥) → (k ≡ 3 → ⊥) → (k ≡ 4 → ⊥) → (k ≡ 6 → ⊥) → (k ≡ 7 → ⊥) → (k ≡ 8 → ⊥) → (k ≡ 9 → ⊥)
     → kindAt k .call slot v ≡ Ask slot
 unfolding kindAt
-ask-else zero slot v a b c d e f = refl
-ask-else (suc zero) slot v a b c d e f = absurd (a refl)
-ask-else (suc (suc zero)) slot v a b c d e f = absurd (b refl)
-ask-else (suc (suc (suc zero))) slot v a b c d e f = absurd (c refl)
-ask-else (suc (suc (suc (suc zero)))) slot v a b c d e f = absurd (d refl)
-ask-else (suc (suc (suc (suc (suc zero))))) slot v a b c d e f = refl
-ask-else (suc (suc (suc (suc (suc (suc zero)))))) slot v a b c d e f = absurd (e refl)
-ask-else (suc (suc (suc (suc (suc (suc (suc zero))))))) slot v a b c d e f = absurd (f refl)
-ask-else (suc (suc (suc (suc (suc (suc (suc (suc k)))))))) slot v a b c d e f = refl
+ask-else zero slot v a b c d e f g h = refl
+ask-else (suc zero) slot v a b c d e f g h = absurd (a refl)
+ask-else (suc (suc zero)) slot v a b c d e f g h = absurd (b refl)
+ask-else (suc (suc (suc zero))) slot v a b c d e f g h = absurd (c refl)
+ask-else (suc (suc (suc (suc zero)))) slot v a b c d e f g h = absurd (d refl)
+ask-else (suc (suc (suc (suc (suc zero))))) slot v a b c d e f g h = refl
+ask-else (suc (suc (suc (suc (suc (suc zero)))))) slot v a b c d e f g h = absurd (e refl)
+ask-else (suc (suc (suc (suc (suc (suc (suc zero))))))) slot v a b c d e f g h = absurd (f refl)
+ask-else (suc (suc (suc (suc (suc (suc (suc (suc zero)))))))) slot v a b c d e f g h = absurd (g refl)
+ask-else (suc (suc (suc (suc (suc (suc (suc (suc (suc zero))))))))) slot v a b c d e f g h = absurd (h refl)
+ask-else (suc (suc (suc (suc (suc (suc (suc (suc (suc (suc k)))))))))) slot v a b c d e f g h = refl
 
 pub blank-else : (k : ℕ) (v : List ℕ) → (k ≡ 3 → ⊥) → (k ≡ 6 → ⊥) → (k ≡ 7 → ⊥) → kindAt k .source v ≡ blank
 unfolding kindAt
@@ -271,4 +273,6 @@ blank-else (suc (suc (suc (suc zero)))) v a b c = refl
 blank-else (suc (suc (suc (suc (suc zero))))) v a b c = refl
 blank-else (suc (suc (suc (suc (suc (suc zero)))))) v a b c = absurd (b refl)
 blank-else (suc (suc (suc (suc (suc (suc (suc zero))))))) v a b c = absurd (c refl)
-blank-else (suc (suc (suc (suc (suc (suc (suc (suc k)))))))) v a b c = refl
+blank-else (suc (suc (suc (suc (suc (suc (suc (suc zero)))))))) v a b c = refl
+blank-else (suc (suc (suc (suc (suc (suc (suc (suc (suc zero))))))))) v a b c = refl
+blank-else (suc (suc (suc (suc (suc (suc (suc (suc (suc (suc k)))))))))) v a b c = refl

@@ -3,14 +3,14 @@
 use Rattle.course.specs.declared.Course.the-variants.{Uncut}
 use Rattle.road.specs.declared.Source.{Source}
 use Rattle.road.specs.declared.Verdict.the-variants as verdict
-use Rattle.road.specs.Judge.{receiverVerdict, sourceVerdict}
-use Rattle.road.proofs.Judged.{ByFields, source-by, receiver-by, slot-by}
+use Rattle.road.specs.Judge.{receiverVerdict, sourceVerdict, wallVerdict}
+use Rattle.road.proofs.Judged.{ByFields, source-by, receiver-by, wall-by, slot-by}
 use Rattle.daily.specs.Daily.{dailyVerdict}
 use Rattle.daily.proofs.Laws.{daily-by}
 use Rattle.codec.specs.declared.Counts.the-variants.{ByPeriod, ByDay}
 use Rattle.codec.specs.declared.Request.{Request}
-use Rattle.codec.specs.declared.Request.the-variants.{PlaceReceiver, WithdrawReceiver, PlaceSource, WithdrawSource, Ask}
-use Rattle.codec.specs.Kinds.{lastNamedSource, lastNamedReceiver, verdictOf}
+use Rattle.codec.specs.declared.Request.the-variants.{PlaceReceiver, WithdrawReceiver, PlaceSource, WithdrawSource, Ask, PlaceWall, WithdrawWall}
+use Rattle.codec.specs.Kinds.{lastNamedSource, lastNamedReceiver, lastNamedWall, verdictOf}
 
 pub verdict-by : (call : Request) (source : Source) → ByFields (verdictOf call source)
 unfolding verdictOf
@@ -20,3 +20,5 @@ verdict-by (PlaceSource slot ByPeriod) s = slot-by lastNamedSource slot (sourceV
 verdict-by (PlaceSource slot (ByDay p d)) s = slot-by lastNamedSource slot (dailyVerdict (Uncut p) d s) (daily-by (Uncut p) d s)
 verdict-by (WithdrawSource slot) s = slot-by lastNamedSource slot verdict.Allowed tt
 verdict-by (Ask slot) s = slot-by lastNamedReceiver slot verdict.Allowed tt
+verdict-by (PlaceWall slot w) s = slot-by lastNamedWall slot (wallVerdict w) (wall-by w)
+verdict-by (WithdrawWall slot) s = slot-by lastNamedWall slot verdict.Allowed tt

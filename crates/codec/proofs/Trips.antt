@@ -187,7 +187,9 @@ kind-periods (suc (suc (suc (suc zero)))) v = refl
 kind-periods (suc (suc (suc (suc (suc zero))))) v = refl
 kind-periods (suc (suc (suc (suc (suc (suc zero)))))) v = refl
 kind-periods (suc (suc (suc (suc (suc (suc (suc zero))))))) v = refl
-kind-periods (suc (suc (suc (suc (suc (suc (suc (suc k)))))))) v = refl
+kind-periods (suc (suc (suc (suc (suc (suc (suc (suc zero)))))))) v = refl
+kind-periods (suc (suc (suc (suc (suc (suc (suc (suc (suc zero))))))))) v = refl
+kind-periods (suc (suc (suc (suc (suc (suc (suc (suc (suc (suc k)))))))))) v = refl
 
 judged-periods : (v : Verdict) (c : Request) (s : Source) → length (s .traffic) ≡ 3 → length (judged v c s .source .traffic) ≡ 3
 judged-periods verdict.Allowed c s e = e

@@ -6,18 +6,19 @@ use lib.ListN.{length, getD, drop}
 use Rattle.layout.specs.Layout.{size}
 use Rattle.course.specs.declared.Course.{Course}
 use Rattle.course.specs.declared.Course.the-variants.{Uncut, Between}
+use Rattle.screen.specs.Screen.{wallOf}
 use Rattle.road.specs.declared.Source.{Source}
 use Rattle.road.specs.declared.Verdict.{Verdict}
 use Rattle.road.specs.declared.Verdict.the-variants.{Allowed}
-use Rattle.road.specs.Fields.{pieceTable, endsTable, sourceTable, receiverTable, pieceOf, endsOf, sourceOf, receiverOf, valuesBy, bitsBy}
-use Rattle.road.specs.Judge.{sourceFields, receiverFields, sourceVerdict, receiverVerdict, slotVerdict}
+use Rattle.road.specs.Fields.{pieceTable, endsTable, sourceTable, receiverTable, wallTable, pieceOf, endsOf, sourceOf, receiverOf, valuesBy, bitsBy}
+use Rattle.road.specs.Judge.{sourceFields, receiverFields, wallFields, sourceVerdict, receiverVerdict, wallVerdict, slotVerdict}
 use Rattle.daily.specs.Daily.{dailyBits, dailyFields, dailyOf, counted, dailyVerdict}
 use Rattle.codec.specs.declared.Counts.{Counts}
 use Rattle.codec.specs.declared.Counts.the-variants.{ByPeriod, ByDay}
 use Rattle.codec.specs.declared.Request.{Request}
-use Rattle.codec.specs.declared.Request.the-variants.{PlaceReceiver, WithdrawReceiver, PlaceSource, WithdrawSource, Ask}
+use Rattle.codec.specs.declared.Request.the-variants.{PlaceReceiver, WithdrawReceiver, PlaceSource, WithdrawSource, Ask, PlaceWall, WithdrawWall}
 
--- ---- what every record begins with, in bits: its kind, and field 1, the slot of a source or of a receiver
+-- ---- what every record begins with, in bits: its kind, and field 1, the slot of a source, of a receiver or of a wall
 
 abbrev pub kindBits : ℕ
 kindBits = 4
@@ -27,6 +28,9 @@ sourceSlotBits = 9
 
 abbrev pub receiverSlotBits : ℕ
 receiverSlotBits = 6
+
+abbrev pub wallSlotBits : ℕ
+wallSlotBits = 6
 
 -- ---- the table
 
@@ -81,6 +85,10 @@ kinds =
     -- 7: place a source by its ends, 34 bytes
     ∷ kind sourceSlotBits (bitsBy endsTable ++ bitsBy sourceTable) (1 ∷ [])
     (λ slot v. PlaceSource slot ByPeriod) (λ v. sourceOf (Between (endsOf v)) (afterEnds v))
+    -- 8: place a wall, 15 bytes
+    ∷ kind wallSlotBits (bitsBy wallTable) (3 ∷ []) (λ slot v. PlaceWall slot (wallOf v)) (λ v. blank)
+    -- 9: withdraw a wall, 2 bytes
+    ∷ kind wallSlotBits [] (6 ∷ []) (λ slot v. WithdrawWall slot) (λ v. blank)
     ∷ []
 
 -- the bytes of the longest record: 34
@@ -123,18 +131,23 @@ lastNamedSource = 2 ^ sourceSlotBits - 1
 abbrev pub lastNamedReceiver : ℕ
 lastNamedReceiver = 2 ^ receiverSlotBits - 1
 
+abbrev pub lastNamedWall : ℕ
+lastNamedWall = 2 ^ wallSlotBits - 1
+
 -- whether a source is allowed, by how its traffic is told
 abbrev pub countsVerdict : Counts → Source → Verdict
 countsVerdict ByPeriod s = sourceVerdict s
 countsVerdict (ByDay p d) s = dailyVerdict (Uncut p) d s
 
--- whether it is allowed, by the limits of slots, receivers and sources: refusals 5, 6 and 7
+-- whether it is allowed, by the limits of slots, receivers, sources and walls: refusals 5, 6 and 7
 unfoldable pub verdictOf : Request → Source → Verdict
 verdictOf (PlaceReceiver slot r) s = slotVerdict lastNamedReceiver slot (receiverVerdict r)
 verdictOf (WithdrawReceiver slot) s = slotVerdict lastNamedReceiver slot Allowed
 verdictOf (PlaceSource slot counts) s = slotVerdict lastNamedSource slot (countsVerdict counts s)
 verdictOf (WithdrawSource slot) s = slotVerdict lastNamedSource slot Allowed
 verdictOf (Ask slot) s = slotVerdict lastNamedReceiver slot Allowed
+verdictOf (PlaceWall slot w) s = slotVerdict lastNamedWall slot (wallVerdict w)
+verdictOf (WithdrawWall slot) s = slotVerdict lastNamedWall slot Allowed
 
 -- its kind, which for a source depends on its course
 abbrev pub courseKind : Course → ℕ
@@ -151,6 +164,8 @@ kindNumber (WithdrawReceiver slot) s = 2
 kindNumber (PlaceSource slot counts) s = countsKind counts s
 kindNumber (WithdrawSource slot) s = 4
 kindNumber (Ask slot) s = 5
+kindNumber (PlaceWall slot w) s = 8
+kindNumber (WithdrawWall slot) s = 9
 
 -- those of a source by its course: the kind, the slot, the course, the other fields, and the leftover bits
 abbrev pub placedFields : Course → ℕ → List ℕ → List ℕ
@@ -165,6 +180,8 @@ fieldsOf (PlaceSource slot ByPeriod) s = placedFields (s .course) slot (sourceFi
 fieldsOf (PlaceSource slot (ByDay p d)) s = 6 ∷ slot ∷ (valuesBy pieceTable p ++ (dailyFields d s ++ (0 ∷ [])))
 fieldsOf (WithdrawSource slot) s = 4 ∷ slot ∷ 0 ∷ []
 fieldsOf (Ask slot) s = 5 ∷ slot ∷ 0 ∷ []
+fieldsOf (PlaceWall slot w) s = 8 ∷ slot ∷ (wallFields w ++ (0 ∷ []))
+fieldsOf (WithdrawWall slot) s = 9 ∷ slot ∷ 0 ∷ []
 
 -- the source that goes with it: by a daily figure, the one that it stands for
 abbrev pub sourceWith : Request → Source → Source
@@ -174,3 +191,5 @@ sourceWith (PlaceSource slot ByPeriod) s = s
 sourceWith (PlaceSource slot (ByDay p d)) s = counted (Uncut p) d s
 sourceWith (WithdrawSource slot) s = blank
 sourceWith (Ask slot) s = blank
+sourceWith (PlaceWall slot w) s = blank
+sourceWith (WithdrawWall slot) s = blank

@@ -21,15 +21,17 @@ ghost use Rattle.codec.specs.declared.Request.the-variants.{PlaceSource}
 ghost use Rattle.codec.specs.Kinds as kinds;
 ghost use Rattle.codec.specs.Inner.{allWidths, filled, shapeOf};
 
-// What every record begins with, in bits: its kind, and the slot of a source or of a receiver.
+// What every record begins with, in bits: its kind, and the slot of a source, of a receiver or of a wall.
 pub const KIND_BITS: u8 = 4;
 
 const SOURCE_SLOT_BITS: u8 = 9;
 
 const RECEIVER_SLOT_BITS: u8 = 6;
 
+const WALL_SLOT_BITS: u8 = 6;
+
 // The widths in bits of one kind after the other: the kind itself, its fields, and its leftover bits where there are any.
-const WIDTHS: [u8; 74] = [
+const WIDTHS: [u8; 85] = [
     // 1: place receiver
     KIND_BITS,
     RECEIVER_SLOT_BITS,
@@ -111,10 +113,23 @@ const WIDTHS: [u8; 74] = [
     fields::SOURCE[13][fields::BITS] as u8,
     fields::SOURCE[14][fields::BITS] as u8,
     1,
+    // 8: place a wall
+    KIND_BITS,
+    WALL_SLOT_BITS,
+    fields::WALL[0][fields::BITS] as u8,
+    fields::WALL[1][fields::BITS] as u8,
+    fields::WALL[2][fields::BITS] as u8,
+    fields::WALL[3][fields::BITS] as u8,
+    fields::WALL[4][fields::BITS] as u8,
+    3,
+    // 9: withdraw a wall
+    KIND_BITS,
+    WALL_SLOT_BITS,
+    6,
 ];
 
 // How many widths a kind has. Here and below the first row is for no kind. (Bytes: a table is laid out anew at every use.)
-const COUNT: [u8; 8] = [
+const COUNT: [u8; 10] = [
     0,
     3 + fields::RECEIVER_ROWS as u8,
     3,
@@ -123,10 +138,12 @@ const COUNT: [u8; 8] = [
     3,
     3 + fields::PIECE_ROWS as u8 + FIGURES as u8,
     3 + fields::ENDS_ROWS as u8 + fields::SOURCE_ROWS as u8,
+    3 + fields::WALL_ROWS as u8,
+    3,
 ];
 
 // Where its widths start among them.
-const START: [u8; 8] = [
+const START: [u8; 10] = [
     0,
     0,
     COUNT[1],
@@ -135,10 +152,12 @@ const START: [u8; 8] = [
     COUNT[1] + COUNT[2] + COUNT[3] + COUNT[4],
     COUNT[1] + COUNT[2] + COUNT[3] + COUNT[4] + COUNT[5],
     COUNT[1] + COUNT[2] + COUNT[3] + COUNT[4] + COUNT[5] + COUNT[6],
+    COUNT[1] + COUNT[2] + COUNT[3] + COUNT[4] + COUNT[5] + COUNT[6] + COUNT[7],
+    COUNT[1] + COUNT[2] + COUNT[3] + COUNT[4] + COUNT[5] + COUNT[6] + COUNT[7] + COUNT[8],
 ];
 
 // How many fields.
-const FIELDS: [u8; 8] = [
+const FIELDS: [u8; 10] = [
     0,
     1 + fields::RECEIVER_ROWS as u8,
     1,
@@ -147,15 +166,19 @@ const FIELDS: [u8; 8] = [
     1,
     1 + fields::PIECE_ROWS as u8 + FIGURES as u8,
     1 + fields::ENDS_ROWS as u8 + fields::SOURCE_ROWS as u8,
+    1 + fields::WALL_ROWS as u8,
+    1,
 ];
 
 // How many bytes.
-const BYTES: [u8; 8] = [0, 9, 2, 30, 2, 2, 20, 34];
+const BYTES: [u8; 10] = [0, 9, 2, 30, 2, 2, 20, 34, 15, 2];
 
 // The last slots that their bits can name, however many slots a book has.
 const LAST_NAMED_SOURCE: u16 = (1 << SOURCE_SLOT_BITS) - 1;
 
 const LAST_NAMED_RECEIVER: u16 = (1 << RECEIVER_SLOT_BITS) - 1;
+
+const LAST_NAMED_WALL: u16 = (1 << WALL_SLOT_BITS) - 1;
 
 // Where the fields after the slot start among the numbers of a record.
 const FIRST: usize = 2;
@@ -177,9 +200,9 @@ pub struct Shape {
 
 // The row of a kind.
 fn row(kind: usize) -> usize
-    ensures { λ r. ⌜ (kindAt r ≡ kindAt kind) × (r < 8) ⌝ }
+    ensures { λ r. ⌜ (kindAt r ≡ kindAt kind) × (r < 10) ⌝ }
 {
-    if kind < 8 {
+    if kind < 10 {
         return kind;
     }
     0
@@ -208,7 +231,7 @@ pub fn shape_of(kind: usize) -> Shape
 }
 
 // The widths of all kinds, to be lent to `layout_of`.
-pub fn widths() -> [u8; 74]
+pub fn widths() -> [u8; 85]
     ensures { λ r. ⌜ r ≡ allWidths ⌝ }
 {
     WIDTHS
@@ -244,6 +267,8 @@ pub fn call(kind: usize, v: &[u64]) -> Request
             Request::PlaceSource(slot, Counts::ByDay(p, d))
         }
         7 => Request::PlaceSource(slot, Counts::ByPeriod),
+        8 => Request::PlaceWall(slot, fields::wall_of(v, FIRST)),
+        9 => Request::WithdrawWall(slot),
         _ => Request::Ask(slot),
     }
 }
@@ -282,6 +307,12 @@ pub fn verdict(steps: &[u32; 1000], call: Request, source: Source) -> Verdict
             Verdict::Allowed,
         ),
         Request::Ask(slot) => judge::judge_slot(LAST_NAMED_RECEIVER, slot, Verdict::Allowed),
+        Request::PlaceWall(slot, w) => judge::judge_slot(
+            LAST_NAMED_WALL,
+            slot,
+            judge::judge_wall(w),
+        ),
+        Request::WithdrawWall(slot) => judge::judge_slot(LAST_NAMED_WALL, slot, Verdict::Allowed),
     }
 }
 
@@ -316,6 +347,8 @@ pub fn number(call: Request, source: Source) -> usize
         Request::PlaceSource(_, counts) => counts_kind(counts, source),
         Request::WithdrawSource(_) => 4,
         Request::Ask(_) => 5,
+        Request::PlaceWall(_, _) => 8,
+        Request::WithdrawWall(_) => 9,
     }
 }
 
@@ -457,5 +490,10 @@ pub fn fields_of(call: Request, source: Source) -> [u64; 25]
         Request::PlaceSource(slot, counts) => source_fields(slot, counts, source),
         Request::WithdrawSource(slot) => join(4, slot, &leftover),
         Request::Ask(slot) => join(5, slot, &leftover),
+        Request::PlaceWall(slot, w) => {
+            let fields = fields::wall_values(w);
+            join(8, slot, &fields)
+        }
+        Request::WithdrawWall(slot) => join(9, slot, &leftover),
     }
 }

@@ -8,6 +8,7 @@ use daily::Daily;
 use road::Receiver;
 use road::Source;
 use road::Verdict;
+use screen::Wall;
 ghost use mathlib.Core.Path.{_≡_};
 ghost use mathlib.Core.List.{_++_};
 ghost use Prim.Native.Nat.{_≤_, _<_};
@@ -32,6 +33,8 @@ pub enum Request {
     PlaceSource(u16, Counts),
     WithdrawSource(u16),
     Ask(u16),
+    PlaceWall(u16, Wall),
+    WithdrawWall(u16),
 }
 
 // What a reading tells: a call, or why there is none.

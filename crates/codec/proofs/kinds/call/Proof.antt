@@ -9,14 +9,15 @@ use lib.ListN.{length, drop}
 use lib.Seq.{drop-drop}
 use Rattle.course.specs.declared.Piece.{Piece}
 use Rattle.layout.specs.Layout.{Within}
+use Rattle.screen.specs.declared.Wall.{Wall}
 use Rattle.road.specs.declared.Receiver.{Receiver}
-use Rattle.road.specs.Fields.{pieceTable, receiverTable, bitsBy}
+use Rattle.road.specs.Fields.{pieceTable, receiverTable, wallTable, bitsBy}
 use Rattle.road.proofs.Rows.{upto-take}
 use Rattle.daily.specs.declared.Daily.{Daily}
 use Rattle.daily.specs.Daily.{dailyBits, dailyOf}
 use Rattle.codec.specs.declared.Counts.the-variants.{ByDay}
-use Rattle.codec.specs.declared.Request.the-variants.{PlaceReceiver, PlaceSource}
-use Rattle.codec.specs.Kinds.{kindBits, receiverSlotBits, sourceSlotBits, at, kindAt, layoutOf, callIn}
+use Rattle.codec.specs.declared.Request.the-variants.{PlaceReceiver, PlaceSource, PlaceWall}
+use Rattle.codec.specs.Kinds.{kindBits, receiverSlotBits, sourceSlotBits, wallSlotBits, at, kindAt, layoutOf, callIn}
 use Rattle.codec.proofs.Laws.{slot-there, slot-fits, part-there, part-fits, table-fits, ask-else}
 use borrow.Author.Needs.{needs}
 use Rattle.codec.proofs.kinds.call.Statement.{statement}
@@ -69,6 +70,13 @@ daily-of-requires c κs =
     let v = now (z .args .v) in
     part-fits (kindBits ∷ sourceSlotBits ∷ bitsBy pieceTable) dailyBits (2 ∷ []) v (subst (λ (k : ℕ). Within (layoutOf k) v) (c .before .before .match .keys5) (z .pre .1))
 
+wall-of-requires : tie.Need-wall-of-requires
+unfolding kindAt
+wall-of-requires c κs =
+    let z = c .before .before .before in
+    let v = now (z .args .v) in
+    table-fits wallTable (kindBits ∷ wallSlotBits ∷ []) (3 ∷ []) v refl (subst (λ (k : ℕ). Within (layoutOf k) v) (c .match .keys7) (z .pre .1))
+
 returns : tie.Need-returns
 unfolding kindAt
 returns c =
@@ -101,10 +109,21 @@ unfolding kindAt
 returns-6 c = ap (λ (k : ℕ). callIn k (now (c .before .before .before .args .v))) (sym (c .match .keys6))
 
 returns-7 : tie.Need-returns-7
+unfolding kindAt
 returns-7 c =
+    let v = now (c .before .before .before .before .args .v) in
+    ap (λ (w : Wall). PlaceWall (at v 1) w) (c .wall-of .ensures) ∙ ap (λ (k : ℕ). callIn k v) (sym (c .before .match .keys7))
+
+returns-8 : tie.Need-returns-8
+unfolding kindAt
+returns-8 c = ap (λ (k : ℕ). callIn k (now (c .before .before .before .args .v))) (sym (c .match .keys8))
+
+returns-9 : tie.Need-returns-9
+returns-9 c =
     let n = c .match .rest in
     let a = c .before .before .before .args in
-    sym (ask-else (a .kind) (at (now (a .v)) 1) (drop 2 (now (a .v))) (n .0 .0 .0 .0 .0 .1) (n .0 .0 .0 .0 .1) (n .0 .0 .0 .1) (n .0 .0 .1) (n .0 .1) (n .1))
+    let m = n .0 .0 in
+    sym (ask-else (a .kind) (at (now (a .v)) 1) (drop 2 (now (a .v))) (m .0 .0 .0 .0 .0 .1) (m .0 .0 .0 .0 .1) (m .0 .0 .0 .1) (m .0 .0 .1) (m .0 .1) (m .1) (n .0 .1) (n .1))
 
 pub call-spec : {M : Type 1} → statement M
 call-spec =
@@ -119,10 +138,13 @@ call-spec =
     part-daily-of-start
     part-daily-of-end
     daily-of-requires
+    wall-of-requires
     returns
     returns-2
     returns-3
     returns-4
     returns-5
     returns-6
-    returns-7)
+    returns-7
+    returns-8
+    returns-9)

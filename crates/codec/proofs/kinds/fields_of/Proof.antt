@@ -1,4 +1,4 @@
--- `fields_of` joins the fields of each call. A receiver's leftover bits are among the zeros after its fields.
+-- `fields_of` joins the fields of each call. The leftover bits of a receiver and of a wall are among the zeros after their fields.
 -- Assumes nothing.
 use Prim.Native.Nat.{ℕ}
 use mathlib.Core.Path.{sym, ap, _∙_}
@@ -55,6 +55,27 @@ slice-aggregate-join-4 c = search needs
 join-requires-4 : tie.Need-join-requires-4
 join-requires-4 c κs = search needs
 
+enum-known-call-6 : tie.Need-enum-known-call-6
+enum-known-call-6 c = search needs
+
+wall-values-requires : tie.Need-wall-values-requires
+wall-values-requires c κs = search needs
+
+slice-aggregate-join-5 : tie.Need-slice-aggregate-join-5
+slice-aggregate-join-5 c = search needs
+
+join-requires-5 : tie.Need-join-requires-5
+join-requires-5 c κs = search needs
+
+enum-known-call-7 : tie.Need-enum-known-call-7
+enum-known-call-7 c = search needs
+
+slice-aggregate-join-6 : tie.Need-slice-aggregate-join-6
+slice-aggregate-join-6 c = search needs
+
+join-requires-6 : tie.Need-join-requires-6
+join-requires-6 c κs = search needs
+
 returns : tie.Need-returns
 unfolding filled
 returns c =
@@ -84,6 +105,19 @@ returns-5 c =
     let a = c .before .before .before .before .before .args in
     c .join4 .ensures ∙ ap (λ (x : Request). filled (fieldsOf x (a .source))) (sym (c .before .before .before .call5 .given .1))
 
+returns-6 : tie.Need-returns-6
+unfolding filled
+returns-6 c =
+    let a = c .before .before .before .before .before .before .args in
+    let k = c .before .before .before .before .call6 .given in
+    c .join5 .ensures ∙ ap (λ (l : List ℕ). filled (8 ∷ k .0 .0 ∷ l)) (c .before .before .wall-values .ensures)
+    ∙ ap (λ (x : Request). filled (fieldsOf x (a .source))) (sym (k .1))
+
+returns-7 : tie.Need-returns-7
+returns-7 c =
+    let a = c .before .before .before .before .before .args in
+    c .join6 .ensures ∙ ap (λ (x : Request). filled (fieldsOf x (a .source))) (sym (c .before .before .before .call7 .given .1))
+
 pub fields-of-spec : {M : Type 1} → statement M
 fields-of-spec =
     tie.close
@@ -103,8 +137,17 @@ fields-of-spec =
     enum-known-call-5
     slice-aggregate-join-4
     join-requires-4
+    enum-known-call-6
+    wall-values-requires
+    slice-aggregate-join-5
+    join-requires-5
+    enum-known-call-7
+    slice-aggregate-join-6
+    join-requires-6
     returns
     returns-2
     returns-3
     returns-4
-    returns-5)
+    returns-5
+    returns-6
+    returns-7)

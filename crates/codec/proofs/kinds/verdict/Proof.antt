@@ -3,7 +3,7 @@
 use mathlib.Core.Path.{sym, ap, _∙_}
 use Rattle.road.specs.Judge.{slotVerdict}
 use Rattle.codec.specs.declared.Request.{Request}
-use Rattle.codec.specs.Kinds.{lastNamedSource, lastNamedReceiver, verdictOf}
+use Rattle.codec.specs.Kinds.{lastNamedSource, lastNamedReceiver, lastNamedWall, verdictOf}
 use borrow.Author.Needs.{needs}
 use Rattle.codec.proofs.kinds.verdict.Statement.{statement}
 use Rattle.codec.proofs.kinds.verdict.Tie as tie
@@ -44,6 +44,21 @@ enum-known-call-5 c = search needs
 judge-slot-requires-5 : tie.Need-judge-slot-requires-5
 judge-slot-requires-5 c κs = search needs
 
+enum-known-call-6 : tie.Need-enum-known-call-6
+enum-known-call-6 c = search needs
+
+judge-wall-requires : tie.Need-judge-wall-requires
+judge-wall-requires c κs = search needs
+
+judge-slot-requires-6 : tie.Need-judge-slot-requires-6
+judge-slot-requires-6 c κs = search needs
+
+enum-known-call-7 : tie.Need-enum-known-call-7
+enum-known-call-7 c = search needs
+
+judge-slot-requires-7 : tie.Need-judge-slot-requires-7
+judge-slot-requires-7 c κs = search needs
+
 returns : tie.Need-returns
 unfolding verdictOf
 returns c =
@@ -71,6 +86,17 @@ unfolding verdictOf
 returns-5 c =
     c .judge-slot5 .ensures ∙ ap (λ (x : Request). verdictOf x (c .before .before .before .before .args .source)) (sym (c .before .before .call5 .given .1))
 
+returns-6 : tie.Need-returns-6
+unfolding verdictOf
+returns-6 c =
+    c .judge-slot6 .ensures ∙ ap (slotVerdict lastNamedWall (c .before .before .before .call6 .given .0 .0)) (c .before .judge-wall .ensures)
+    ∙ ap (λ (x : Request). verdictOf x (c .before .before .before .before .before .args .source)) (sym (c .before .before .before .call6 .given .1))
+
+returns-7 : tie.Need-returns-7
+unfolding verdictOf
+returns-7 c =
+    c .judge-slot7 .ensures ∙ ap (λ (x : Request). verdictOf x (c .before .before .before .before .args .source)) (sym (c .before .before .call7 .given .1))
+
 pub verdict-spec : {M : Type 1} → statement M
 verdict-spec =
     tie.close
@@ -87,8 +113,15 @@ verdict-spec =
     judge-slot-requires-4
     enum-known-call-5
     judge-slot-requires-5
+    enum-known-call-6
+    judge-wall-requires
+    judge-slot-requires-6
+    enum-known-call-7
+    judge-slot-requires-7
     returns
     returns-2
     returns-3
     returns-4
-    returns-5)
+    returns-5
+    returns-6
+    returns-7)
