@@ -37,7 +37,7 @@ seated-next (t ∷ ts) (o ∷ os) (suc j) h k =
 seat-sound : (b : Book) (j : ℕ) (t : Seat) → SoundBook b → (t .used ≡ true → HeldStands (t .held)) → SoundBook (settled t j b)
 seat-sound b j t h f = go (t .used) refl
   where
-    go : (u : Bool) → t .used ≡ u → SoundBook (book (b .sources) (cond (t .used) (set (b .receivers) j (some (t .held))) (b .receivers)))
+    go : (u : Bool) → t .used ≡ u → SoundBook (book (b .sources) (cond (t .used) (set (b .receivers) j (some (t .held))) (b .receivers)) (b .walls))
     go true e = rw e (sound-held b j (some (t .held)) h (λ (a : Held) q. (let k : t .held ≡ a = cc in subst HeldStands k (f e))))
     go false e = rw e h
 

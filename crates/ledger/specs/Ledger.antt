@@ -18,6 +18,9 @@ use Rattle.road.specs.Pairs.{Pairing, mostShare}
 use Rattle.road.specs.declared.Verdict.the-variants.{Allowed}
 use Rattle.road.specs.Judge.{receiverVerdict}
 use Rattle.level.specs.Level.{top}
+use Rattle.layout.specs.Over.{over}
+use Rattle.screen.specs.declared.Wall.{Wall}
+use Rattle.screen.specs.Screen.{wallNumbers}
 use Rattle.store.specs.declared.Account.{Account}
 use Rattle.store.specs.declared.Held.{Held}
 use Rattle.store.specs.declared.Seat.{Seat}
@@ -161,3 +164,9 @@ blockedOr j (By b) o = some (barAt j b)
 unfoldable pub firstBlock : ℕ → List Tally → Option Refusal
 firstBlock j [] = none
 firstBlock j (t ∷ ts) = blockedOr j (t .block) (firstBlock (suc j) ts)
+
+-- ---- the walls as numbers: the wall of a slot is laid at an index, if there is one; the index behind it, and the numbers then
+
+abbrev pub laidAt : Option Wall → ℕ → List ℕ → ℕ × List ℕ
+laidAt none at l = (at, l)
+laidAt (some w) at l = (at + 5, over at (wallNumbers w) l)

@@ -74,7 +74,8 @@ fn begin_all(store: &[u8]) -> [Tally; store::RECEIVERS]
     let mut tallies = [empty; store::RECEIVERS];
     let mut j = 0;
     while j < store::RECEIVERS {
-        tallies[j] = begin(store::receivers::seat(store, j));
+        let t = begin(store::receivers::seat(store, j));
+        tallies[j] = t;
         j += 1;
     }
     tallies
@@ -149,7 +150,8 @@ fn hear_all(
     let mut j = 0;
     while j < store::RECEIVERS {
         let t = tallies[j];
-        next[j] = hear(steps, walls, s, sent, t);
+        let heard = hear(steps, walls, s, sent, t);
+        next[j] = heard;
         j += 1;
     }
     next
@@ -182,7 +184,8 @@ fn reckon(steps: &[u32; 1000], walls: &[u64], store: &[u8]) -> [Tally; store::RE
     let mut tallies = begin_all(store);
     let mut i = 0;
     while i < store::SOURCES {
-        tallies = hear_slot(steps, walls, store, i, tallies);
+        let next = hear_slot(steps, walls, store, i, tallies);
+        tallies = next;
         i += 1;
     }
     tallies

@@ -1,28 +1,31 @@
 // The standing walls of a book as numbers, five for each, gathered once for a call: as they are, or as they would be with one slot changed.
 // What the numbers are is `laid` of the crate screen.
 use road::fields;
-use screen::Wall;
 use store::WallSlot;
 ghost use mathlib.Core.Path.{_≡_};
 ghost use mathlib.Core.Bool.{false};
 ghost use mathlib.Core.Option.{none};
 ghost use Prim.Native.Nat.{_+_, _≤_, _<_};
 ghost use lib.ListN.{length, getD, take, set};
-ghost use Rattle.layout.specs.Over.{over};
-ghost use Rattle.screen.specs.Screen.{wallNumbers, laid};
+ghost use Rattle.screen.specs.Screen.{laid};
 ghost use Rattle.store.specs.Store.{wallCount, damaged, bookOf, wallSlotEntry};
 ghost use Rattle.ledger.specs.Lists.{present};
+ghost use Rattle.ledger.specs.Ledger.{laidAt};
 
 // As many numbers as the walls of a full book have.
 pub const NUMBERS: usize = store::WALLS * screen::NUMBERS;
 
-// Writes the numbers of a wall at an index.
-fn lay_wall(w: Wall, numbers: &mut [u64], at: usize)
-    requires { ⌜ at + 5 ≤ length (now numbers) ⌝ }
-    ensures { λ _. ⌜ now (numbers .exit) ≡ over at (wallNumbers w) (now (numbers .entry)) ⌝ }
+// Writes the numbers of the wall in a slot at an index, if it is in use, and tells the index behind them.
+fn lay_slot(slot: WallSlot, numbers: &mut [u64], at: usize) -> usize
+    requires { ⌜ (at + 5 ≤ length (now numbers)) × (at < 320) ⌝ }
+    ensures { λ n. ⌜ (n, now (numbers .exit)) ≡ laidAt (wallSlotEntry slot) at (now (numbers .entry)) ⌝ }
 {
-    let values = fields::wall_values(w);
+    if !slot.used {
+        return at;
+    }
+    let values = fields::wall_values(slot.wall);
     layout::lay(&values, numbers, at);
+    at + screen::NUMBERS
 }
 
 // Slot k; where it is the slot that changes, as it is to be.
@@ -46,10 +49,7 @@ pub fn gather(store: &[u8], changes: usize, other: WallSlot, numbers: &mut [u64]
     let mut k = 0;
     while k < store::WALLS {
         let slot = slot_at(store, k, changes, other);
-        if slot.used {
-            lay_wall(slot.wall, numbers, at);
-            at += screen::NUMBERS;
-        }
+        at = lay_slot(slot, numbers, at);
         k += 1;
     }
     at

@@ -12,7 +12,9 @@ use Rattle.road.specs.declared.Receiver.{Receiver}
 use Rattle.road.specs.declared.Pair.{Pair}
 use Rattle.road.specs.declared.Pair.the-variants.{Heard}
 use Rattle.road.specs.declared.Pair.the-variants.{Barred as Bars}
+use Rattle.screen.specs.Screen.{wallsOf}
 use Rattle.road.specs.Reach.{pairOf}
+use Rattle.road.specs.Pairs.{Pairing}
 use Rattle.road.proofs.Pairs.{pair-bounded}
 use Rattle.store.specs.Store.{sourceCount, bookOf}
 use Rattle.store.proofs.Laws.{sound-book}
@@ -24,46 +26,46 @@ use Rattle.ledger.proofs.gather.gather.Statement.{statement}
 use Rattle.ledger.proofs.gather.gather.Tie as tie
 
 -- what an offer tells of the slot
-nobody : (r : Receiver) (o : Option Source) → offerOf r o ≡ Nobody → o ≡ none
-nobody r none e = refl
-nobody r (some s) e = absurd (go (pairOf s r) e)
+nobody : (pair : Pairing) (r : Receiver) (o : Option Source) → offerOf pair r o ≡ Nobody → o ≡ none
+nobody pair r none e = refl
+nobody pair r (some s) e = absurd (go (pair s r) e)
   where
     go : (p : Pair) → offerBy p ≡ Nobody → ⊥
     go (Heard h) q = let z : _≡_ {A = ℕ} 0 1 = cc in omega arith
     go (Bars b) q = let z : _≡_ {A = ℕ} 0 1 = cc in omega arith
 
-brings : (r : Receiver) (o : Option Source) (x : Shares) → offerOf r o ≡ Brings x → (s : Source) × (o ≡ some s) × (pairOf s r ≡ Heard x)
-brings r none x e = absurd (let z : _≡_ {A = ℕ} 0 1 = cc in omega arith)
-brings r (some s) x e = go (pairOf s r) refl e
+brings : (pair : Pairing) (r : Receiver) (o : Option Source) (x : Shares) → offerOf pair r o ≡ Brings x → (s : Source) × (o ≡ some s) × (pair s r ≡ Heard x)
+brings pair r none x e = absurd (let z : _≡_ {A = ℕ} 0 1 = cc in omega arith)
+brings pair r (some s) x e = go (pair s r) refl e
   where
-    go : (p : Pair) → pairOf s r ≡ p → offerBy (pairOf s r) ≡ Brings x → (t : Source) × (some s ≡ some t) × (pairOf t r ≡ Heard x)
+    go : (p : Pair) → pair s r ≡ p → offerBy (pair s r) ≡ Brings x → (t : Source) × (some s ≡ some t) × (pair t r ≡ Heard x)
     go (Heard h) q f = (s, refl, q ∙ (let w : Brings h ≡ Brings x = sym (ap offerBy q) ∙ f in let k : h ≡ x = cc in ap Heard k))
     go (Bars b) q f = absurd (let w : Stops b ≡ Brings x = sym (ap offerBy q) ∙ f in let z : _≡_ {A = ℕ} 0 1 = cc in omega arith)
 
-stops : (r : Receiver) (o : Option Source) (b : Bar) → offerOf r o ≡ Stops b → (s : Source) × (o ≡ some s) × (pairOf s r ≡ Bars b)
-stops r none b e = absurd (let z : _≡_ {A = ℕ} 0 1 = cc in omega arith)
-stops r (some s) b e = go (pairOf s r) refl e
+stops : (pair : Pairing) (r : Receiver) (o : Option Source) (b : Bar) → offerOf pair r o ≡ Stops b → (s : Source) × (o ≡ some s) × (pair s r ≡ Bars b)
+stops pair r none b e = absurd (let z : _≡_ {A = ℕ} 0 1 = cc in omega arith)
+stops pair r (some s) b e = go (pair s r) refl e
   where
-    go : (p : Pair) → pairOf s r ≡ p → offerBy (pairOf s r) ≡ Stops b → (t : Source) × (some s ≡ some t) × (pairOf t r ≡ Bars b)
+    go : (p : Pair) → pair s r ≡ p → offerBy (pair s r) ≡ Stops b → (t : Source) × (some s ≡ some t) × (pair t r ≡ Bars b)
     go (Heard h) q f = absurd (let w : Brings h ≡ Stops b = sym (ap offerBy q) ∙ f in let z : _≡_ {A = ℕ} 0 1 = cc in omega arith)
     go (Bars d) q f = (s, refl, q ∙ (let w : Stops d ≡ Stops b = sym (ap offerBy q) ∙ f in let k : d ≡ b = cc in ap Bars k))
 
 abbrev Inv-loop : tie.InvT-loop
-Inv-loop steps store r sums₀ i₀ sums i = (i ≤ sourceCount) × Gathers pairOf pair-bounded r (bookOf store .sources) sums i
+Inv-loop steps walls store r sums₀ i₀ sums i = (i ≤ sourceCount) × Gathers (pairOf (wallsOf walls)) (pair-bounded (wallsOf walls)) r (bookOf store .sources) sums i
 
 abbrev μ-loop : tie.MeasureT-loop
-μ-loop steps store r sums₀ i₀ sums i = sourceCount - i
+μ-loop steps walls store r sums₀ i₀ sums i = sourceCount - i
 
 loop-holds : tie.Need-loop-holds Inv-loop μ-loop
-loop-holds c = (omega arith, gather-begun pairOf pair-bounded (c .before .args .r) (bookOf (c .before .args .store .now) .sources))
+loop-holds c = let a = c .before .before .args in (omega arith, gather-begun (pairOf (wallsOf (a .walls .now))) (pair-bounded (wallsOf (a .walls .now))) (a .r) (bookOf (a .store .now) .sources))
 
 hear-source-requires : tie.Need-hear-source-requires Inv-loop μ-loop
-hear-source-requires c κs = let start = c .before .before .before in (start .pre .0, start .pre .1, omega (arith, c .loop-test .taken), start .pre .2)
+hear-source-requires c κs = let start = c .before .before .before .before in (start .pre .0, start .pre .1, omega (arith, c .loop-test .taken), start .pre .2, start .pre .3)
 
 -- the turn's slot is one of the book's
-within : (c : tie.After-hear-source Inv-loop μ-loop) → c .before .before .loop .i < length (bookOf (c .before .before .before .before .args .store .now) .sources)
+within : (c : tie.After-hear-source Inv-loop μ-loop) → c .before .before .loop .i < length (bookOf (c .before .before .before .before .before .args .store .now) .sources)
 within c =
-    let start = c .before .before .before .before in
+    let start = c .before .before .before .before .before in
     omega (arith, sound-book (start .args .store .now) (start .pre .1) .source-slots, c .before .loop-test .taken)
 
 enum-told : tie.Need-enum-told Inv-loop μ-loop
@@ -79,9 +81,10 @@ loop-again : tie.Need-loop-again Inv-loop μ-loop
 loop-again c =
     let h = c .before .before in
     let lp = h .before .before in
-    let start = lp .before .before in
-    let e = nobody (start .args .r) (getD (bookOf (start .args .store .now) .sources) (lp .loop .i) none) (sym (h .hear-source .ensures) ∙ c .enum-told .given .1) in
-    (omega arith, gather-free pairOf pair-bounded (start .args .r) (bookOf (start .args .store .now) .sources) (lp .loop .i) (within h) (lp .loop .sums) (lp .loop .inv .1) e)
+    let start = lp .before .before .before in
+    let ws = wallsOf (start .args .walls .now) in
+    let e = nobody (pairOf ws) (start .args .r) (getD (bookOf (start .args .store .now) .sources) (lp .loop .i) none) (sym (h .hear-source .ensures) ∙ c .enum-told .given .1) in
+    (omega arith, gather-free (pairOf ws) (pair-bounded ws) (start .args .r) (bookOf (start .args .store .now) .sources) (lp .loop .i) (within h) (lp .loop .sums) (lp .loop .inv .1) e)
 
 enum-known-shares : tie.Need-enum-known-shares Inv-loop μ-loop
 enum-known-shares c = search needs
@@ -90,9 +93,10 @@ plus-requires : tie.Need-plus-requires Inv-loop μ-loop
 plus-requires c κs =
     let h = c .before .before .before in
     let lp = h .before .before in
-    let start = lp .before .before in
-    let e = brings (start .args .r) (getD (bookOf (start .args .store .now) .sources) (lp .loop .i) none) _ (sym (h .hear-source .ensures) ∙ c .before .shares .given .1) in
-    gather-room pairOf pair-bounded (start .args .r) (bookOf (start .args .store .now) .sources) (lp .loop .i) (within h) (lp .loop .sums) (lp .loop .inv .1) (e .0) _ (omega (arith, h .before .loop-test .taken)) (e .2)
+    let start = lp .before .before .before in
+    let ws = wallsOf (start .args .walls .now) in
+    let e = brings (pairOf ws) (start .args .r) (getD (bookOf (start .args .store .now) .sources) (lp .loop .i) none) _ (sym (h .hear-source .ensures) ∙ c .before .shares .given .1) in
+    gather-room (pairOf ws) (pair-bounded ws) (start .args .r) (bookOf (start .args .store .now) .sources) (lp .loop .i) (within h) (lp .loop .sums) (lp .loop .inv .1) (e .0) _ (omega (arith, h .before .loop-test .taken)) (e .2)
 
 add-i-2 : tie.Need-add-i-2 Inv-loop μ-loop
 add-i-2 c = omega arith
@@ -104,9 +108,10 @@ loop-again-2 : tie.Need-loop-again-2 Inv-loop μ-loop
 loop-again-2 c =
     let h = c .before .before .before .before in
     let lp = h .before .before in
-    let start = lp .before .before in
-    let e = brings (start .args .r) (getD (bookOf (start .args .store .now) .sources) (lp .loop .i) none) _ (sym (h .hear-source .ensures) ∙ c .before .before .shares .given .1) in
-    (omega arith, rw (c .plus .ensures) (gather-heard pairOf pair-bounded (start .args .r) (bookOf (start .args .store .now) .sources) (lp .loop .i) (within h) (lp .loop .sums) (lp .loop .inv .1) (e .0) _ (e .1) (e .2)))
+    let start = lp .before .before .before in
+    let ws = wallsOf (start .args .walls .now) in
+    let e = brings (pairOf ws) (start .args .r) (getD (bookOf (start .args .store .now) .sources) (lp .loop .i) none) _ (sym (h .hear-source .ensures) ∙ c .before .before .shares .given .1) in
+    (omega arith, rw (c .plus .ensures) (gather-heard (pairOf ws) (pair-bounded ws) (start .args .r) (bookOf (start .args .store .now) .sources) (lp .loop .i) (within h) (lp .loop .sums) (lp .loop .inv .1) (e .0) _ (e .1) (e .2)))
 
 enum-known-bar : tie.Need-enum-known-bar Inv-loop μ-loop
 enum-known-bar c = search needs
@@ -121,15 +126,17 @@ returns : tie.Need-returns Inv-loop μ-loop
 returns c =
     let h = c .before .before .before .before in
     let lp = h .before .before in
-    let start = lp .before .before in
-    let e = stops (start .args .r) (getD (bookOf (start .args .store .now) .sources) (lp .loop .i) none) _ (sym (h .hear-source .ensures) ∙ c .before .before .bar .given .1) in
-    gather-stopped pairOf pair-bounded (start .args .r) (bookOf (start .args .store .now) .sources) _ _ (ap At (c .bar-at .ensures))
-    (gather-barred pairOf pair-bounded (start .args .r) (bookOf (start .args .store .now) .sources) (lp .loop .i) (within h) (lp .loop .sums) (lp .loop .inv .1) (e .0) _ (e .1) (e .2))
+    let start = lp .before .before .before in
+    let ws = wallsOf (start .args .walls .now) in
+    let e = stops (pairOf ws) (start .args .r) (getD (bookOf (start .args .store .now) .sources) (lp .loop .i) none) _ (sym (h .hear-source .ensures) ∙ c .before .before .bar .given .1) in
+    gather-stopped (pairOf ws) (pair-bounded ws) (start .args .r) (bookOf (start .args .store .now) .sources) _ _ (ap At (c .bar-at .ensures))
+    (gather-barred (pairOf ws) (pair-bounded ws) (start .args .r) (bookOf (start .args .store .now) .sources) (lp .loop .i) (within h) (lp .loop .sums) (lp .loop .inv .1) (e .0) _ (e .1) (e .2))
 
 returns-2 : tie.Need-returns-2 Inv-loop μ-loop
 returns-2 c =
-    let start = c .before .before .before in
-    gather-over pairOf pair-bounded (start .args .r) (bookOf (start .args .store .now) .sources) (c .before .loop .sums) (c .before .loop .i) (omega (arith, sound-book (start .args .store .now) (start .pre .1) .source-slots, c .loop-test .left)) (c .before .loop .inv .0) (c .before .loop .inv .1)
+    let start = c .before .before .before .before in
+    let ws = wallsOf (start .args .walls .now) in
+    gather-over (pairOf ws) (pair-bounded ws) (start .args .r) (bookOf (start .args .store .now) .sources) (c .before .loop .sums) (c .before .loop .i) (omega (arith, sound-book (start .args .store .now) (start .pre .1) .source-slots, c .loop-test .left)) (c .before .loop .inv .0) (c .before .loop .inv .1)
 
 pub gather-spec : {M : Type 1} → statement M
 gather-spec = tie.close (tie.spec Inv-loop μ-loop loop-holds hear-source-requires enum-told add-i loop-less loop-again enum-known-shares plus-requires add-i-2 loop-less-2 loop-again-2 enum-known-bar cast-bar-at bar-at-requires returns returns-2)

@@ -7,6 +7,7 @@ use mathlib.Core.Option.{Option, none, some}
 use mathlib.Core.List.{List}
 use borrow.Author.Needs.{needs}
 use lib.ListN.{getD, length}
+use Rattle.screen.specs.Screen.{wallsOf}
 use Rattle.store.specs.declared.Held.{Held}
 use Rattle.store.specs.Store.{receiverCount, bookOf}
 use Rattle.store.proofs.Laws.{undamaged, sound-book}
@@ -18,28 +19,28 @@ use Rattle.ledger.proofs.round.go_round.Statement.{statement}
 use Rattle.ledger.proofs.round.go_round.Tie as tie
 
 abbrev Inv-loop : tie.InvT-loop
-Inv-loop steps store s sent adding seats₀ late₀ j₀ seats late j = (j ≤ receiverCount) × Rounding (changeBy adding s) (bookOf store .receivers) late seats j
+Inv-loop steps walls store s sent adding seats₀ late₀ j₀ seats late j = (j ≤ receiverCount) × Rounding (changeBy (wallsOf walls) adding s) (bookOf store .receivers) late seats j
 
 abbrev μ-loop : tie.MeasureT-loop
-μ-loop steps store s sent adding seats₀ late₀ j₀ seats late j = receiverCount - j
+μ-loop steps walls store s sent adding seats₀ late₀ j₀ seats late j = receiverCount - j
 
 vacant-requires : tie.Need-vacant-requires Inv-loop μ-loop
 vacant-requires c κs = search needs
 
 loop-holds : tie.Need-loop-holds Inv-loop μ-loop
 loop-holds c =
-    let a = c .before .before .args in
-    (omega arith, rw (c .vacant .ensures) (round-begun (changeBy (a .adding) (a .s)) (bookOf (a .store .now) .receivers)))
+    let a = c .before .before .before .args in
+    (omega arith, rw (c .vacant .ensures) (round-begun (changeBy (wallsOf (a .walls .now)) (a .adding) (a .s)) (bookOf (a .store .now) .receivers)))
 
 seat-requires : tie.Need-seat-requires Inv-loop μ-loop
 seat-requires c κs =
-    let start = c .before .before .before .before in
+    let start = c .before .before .before .before .before in
     (omega (arith, c .loop-test .taken), undamaged (start .args .store .now) (start .pre .1) .0)
 
 -- the slot is one of the book's
-within : (t : tie.After-seat Inv-loop μ-loop) → t .before .before .loop .j < length (bookOf (t .before .before .before .before .before .args .store .now) .receivers)
+within : (t : tie.After-seat Inv-loop μ-loop) → t .before .before .loop .j < length (bookOf (t .before .before .before .before .before .before .args .store .now) .receivers)
 within t =
-    let start = t .before .before .before .before .before in
+    let start = t .before .before .before .before .before .before in
     omega (arith, sound-book (start .args .store .now) (start .pre .1) .seats, t .before .loop-test .taken)
 
 inside : (t : tie.After-seat Inv-loop μ-loop) → t .before .before .loop .j < receiverCount
@@ -47,10 +48,10 @@ inside t = omega (arith, t .before .loop-test .taken)
 
 -- the change that is made, the receivers that it is made to, and what is known of them before the turn
 abbrev begun : tie.After-seat Inv-loop μ-loop → tie.Start Inv-loop μ-loop
-begun t = t .before .before .before .before .before
+begun t = t .before .before .before .before .before .before
 
 abbrev made : tie.After-seat Inv-loop μ-loop → Change
-made t = changeBy (begun t .args .adding) (begun t .args .s)
+made t = changeBy (wallsOf (begun t .args .walls .now)) (begun t .args .adding) (begun t .args .s)
 
 abbrev told : tie.After-seat Inv-loop μ-loop → List (Option Held)
 told t = bookOf (begun t .args .store .now) .receivers
@@ -65,9 +66,9 @@ free t = seat-free (begun t .args .store .now) (t .before .before .loop .j) (beg
 meet-requires : tie.Need-meet-requires Inv-loop μ-loop
 meet-requires c κs =
     let t = c .before .before in
-    let start = t .before .before .before .before .before in
+    let start = t .before .before .before .before .before .before in
     let st = seat-stands (start .args .store .now) (t .before .before .loop .j) (start .pre .1) (inside t) (t .seat .result) (t .seat .ensures) (c .if1 .taken) in
-    (start .pre .0, start .pre .2, start .pre .3, st .0)
+    (start .pre .0, start .pre .2, start .pre .3, st .0, start .pre .4)
 
 enum-known-sums : tie.Need-enum-known-sums Inv-loop μ-loop
 enum-known-sums c = search needs
@@ -135,9 +136,9 @@ loop-again-3 c =
 
 returns-2 : tie.Need-returns-2 Inv-loop μ-loop
 returns-2 c =
-    let start = c .before .before .before .before in
+    let start = c .before .before .before .before .before in
     let a = start .args in
-    round-over (changeBy (a .adding) (a .s)) (bookOf (a .store .now) .receivers) (c .before .loop .late) (c .before .loop .seats) (c .before .loop .j)
+    round-over (changeBy (wallsOf (a .walls .now)) (a .adding) (a .s)) (bookOf (a .store .now) .receivers) (c .before .loop .late) (c .before .loop .seats) (c .before .loop .j)
     (sound-book (a .store .now) (start .pre .1) .seats) (omega (arith, c .loop-test .left)) (c .before .loop .inv .1)
 
 pub go-round-spec : {M : Type 1} → statement M

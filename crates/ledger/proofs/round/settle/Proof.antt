@@ -16,7 +16,7 @@ use Rattle.ledger.proofs.round.settle.Tie as tie
 
 -- a store with the receivers of one seat or the other
 either : List ℕ → ℕ → Held → Bool → List ℕ
-either s j x b = bookBytes (book (bookOf s .sources) (cond b (set (bookOf s .receivers) j (some x)) (bookOf s .receivers)))
+either s j x b = bookBytes (book (bookOf s .sources) (cond b (set (bookOf s .receivers) j (some x)) (bookOf s .receivers)) (bookOf s .walls))
 
 put-held-requires : tie.Need-put-held-requires
 put-held-requires c κs =

@@ -19,7 +19,7 @@ use Rattle.ledger.proofs.round.write_seats.Statement.{statement}
 use Rattle.ledger.proofs.round.write_seats.Tie as tie
 
 abbrev Inv-loop : tie.InvT-loop
-Inv-loop store₀ seats k₀ store k = (k ≤ receiverCount) × Holds store (book (bookOf store₀ .sources) (seated (take k seats) (bookOf store₀ .receivers)))
+Inv-loop store₀ seats k₀ store k = (k ≤ receiverCount) × Holds store (book (bookOf store₀ .sources) (seated (take k seats) (bookOf store₀ .receivers)) (bookOf store₀ .walls))
 
 abbrev μ-loop : tie.MeasureT-loop
 μ-loop store₀ seats k₀ store k = receiverCount - k
@@ -53,7 +53,7 @@ loop-again c =
     let s = start .args .store .now in
     let k = lp .loop .k in
     let l = bookOf s .receivers in
-    let now = seat-holds (lp .loop .store) _ (book (bookOf s .sources) (seated (take k (start .args .t2)) l)) k (getD (start .args .t2) k vacant) (lp .loop .inv .1) (start .pre .1 .stand k) (st .settle .ensures) in
+    let now = seat-holds (lp .loop .store) _ (book (bookOf s .sources) (seated (take k (start .args .t2)) l) (bookOf s .walls)) k (getD (start .args .t2) k vacant) (lp .loop .inv .1) (start .pre .1 .stand k) (st .settle .ensures) in
     let next : seated (take (k + 1) (start .args .t2)) l ≡ _ =
     ap (λ (n : ℕ). seated (take n (start .args .t2)) l) (add-one k)
     ∙ seated-next (start .args .t2) l k (omega (arith, start .pre .1 .count, st .before .before .before .loop-test .taken)) (omega (arith, sound-book s (start .pre .0) .seats, st .before .before .before .loop-test .taken)) in
@@ -70,7 +70,7 @@ returns c =
     let s = start .args .store .now in (
       c .before .loop .inv .1 .whole,
       c .before .loop .inv .1 .is
-          ∙ ap (λ (m : List Seat). book (bookOf s .sources) (seated m (bookOf s .receivers))) (take-all (c .before .loop .k) (start .args .t2) (omega (arith, start .pre .1 .count, c .loop-test .left))),
+          ∙ ap (λ (m : List Seat). book (bookOf s .sources) (seated m (bookOf s .receivers)) (bookOf s .walls)) (take-all (c .before .loop .k) (start .args .t2) (omega (arith, start .pre .1 .count, c .loop-test .left))),
     )
 
 pub write-seats-spec : {M : Type 1} → statement M
