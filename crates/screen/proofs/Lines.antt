@@ -71,7 +71,7 @@ fraction-proper p r w h =
 -- ---- a wall along the plan line, or through one of its ends, does not count
 
 -- the four turns of four points: each product of an x and a y stands once on either side
-four-turns : (a b p r : Point)
+pub four-turns : (a b p r : Point)
     → around a b p + around p r a + around b a r + around r p b ≡ around a b r + around p r b + around b a p + around r p a
 unfolding around
 four-turns a b p r = omega arith

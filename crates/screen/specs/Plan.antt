@@ -5,7 +5,7 @@
 --      a --+-+-+-- b              f = area (a b p) / (area (a b p) + area (a b r))
 --           \|/               The wall counts if p and r lie on opposite sides of its line, and a and b not on one side of the plan line.
 --            r
-use Prim.Native.Nat.{ℕ, _+_, _-_, _*_, _^_, _<_, _≤_}
+use Prim.Native.Nat.{ℕ, _+_, _-_, _*_, _^_, _<_, _≤_, min, max}
 use mathlib.Core.Path.{_≡_}
 use mathlib.Core.Bool.{Bool, true, not, _&&_, _||_}
 use lib.Dec.{ltb}
@@ -91,3 +91,12 @@ pub record WallOnPlan (w : Wall) : Type 0 where
   pub from : OnPlan (start w)
   pub to : OnPlan (end w)
   pub low : w .height ≤ 2000
+
+-- ---- what the code asks first of a wall: one with both ends on one side of the box of p and r does not count (proofs/Aside.antt)
+
+-- a and b lie both below, or both above, p and r
+abbrev pub clear : ℕ → ℕ → ℕ → ℕ → Bool
+clear a b p r = ltb (max a b) (min p r) || ltb (max p r) (min a b)
+
+abbrev pub aside : Point → Point → Wall → Bool
+aside p r w = clear (w .ends .x1) (w .ends .x2) (p .x) (r .x) || clear (w .ends .y1) (w .ends .y2) (p .y) (r .y)

@@ -3,9 +3,9 @@
 use crate::Point;
 use crate::Wall;
 ghost use mathlib.Core.Path.{_≡_};
-ghost use Prim.Native.Nat.{_*_, _^_, _≤_, _<_};
+ghost use Prim.Native.Nat.{_*_, _^_, _≤_, _<_, min, max};
 ghost use Rattle.course.specs.Course.{apart};
-ghost use Rattle.screen.specs.Plan.{OnPlan, WallOnPlan, around, turn, area, opposite, beside, counts, fractionOf};
+ghost use Rattle.screen.specs.Plan.{OnPlan, WallOnPlan, around, turn, area, opposite, beside, clear, aside, counts, fractionOf};
 
 // Twice the area of a triangle as two sums, whose difference it is. Going from its first point to its second, the third lies left
 // or right as the left or the right sum is larger, and on the line where they are equal.
@@ -77,8 +77,45 @@ fn beside(t: Sides, u: Sides) -> bool
     ((t.left < t.right) & (u.left < u.right)) | ((t.right < t.left) & (u.right < u.left))
 }
 
-// Whether a wall counts between p and r: most walls leave both on one side, and no more is asked of them.
-pub fn counts(p: Point, r: Point, w: Wall) -> bool
+// The smaller of two coordinates.
+fn lesser(a: u32, b: u32) -> u32
+    ensures { λ r. ⌜ r ≡ min a b ⌝ }
+{
+    if a < b {
+        return a;
+    }
+    b
+}
+
+// The larger of two coordinates.
+fn greater(a: u32, b: u32) -> u32
+    ensures { λ r. ⌜ r ≡ max a b ⌝ }
+{
+    if a < b {
+        return b;
+    }
+    a
+}
+
+// Whether a and b lie both below, or both above, p and r.
+fn clear(a: u32, b: u32, p: u32, r: u32) -> bool
+    ensures { λ t. ⌜ t ≡ clear a b p r ⌝ }
+{
+    let below = greater(a, b) < lesser(p, r);
+    let above = greater(p, r) < lesser(a, b);
+    below | above
+}
+
+// Whether a wall has both ends on one side of the box of p and r: it does not count then.
+fn aside(p: Point, r: Point, w: Wall) -> bool
+    ensures { λ t. ⌜ t ≡ aside p r w ⌝ }
+{
+    let e = w.ends;
+    clear(e.x1, e.x2, p.x, r.x) | clear(e.y1, e.y2, p.y, r.y)
+}
+
+// Whether a wall counts between p and r, by the turns: most walls leave both on one side, and no more is asked of them.
+fn crosses(p: Point, r: Point, w: Wall) -> bool
     requires { ⌜ OnPlan p × OnPlan r × WallOnPlan w ⌝ }
     ensures { λ b. ⌜ b ≡ counts p r w ⌝ }
 {
@@ -89,6 +126,17 @@ pub fn counts(p: Point, r: Point, w: Wall) -> bool
         return false;
     }
     !beside(turn(p, r, a), turn(p, r, b))
+}
+
+// Whether a wall counts between p and r: most walls lie aside, and no turns are asked of them.
+pub fn counts(p: Point, r: Point, w: Wall) -> bool
+    requires { ⌜ OnPlan p × OnPlan r × WallOnPlan w ⌝ }
+    ensures { λ b. ⌜ b ≡ counts p r w ⌝ }
+{
+    if aside(p, r, w) {
+        return false;
+    }
+    crosses(p, r, w)
 }
 
 // The fraction of the plan line at which it crosses the wall's line.
