@@ -34,7 +34,7 @@ use Rattle.ledger.specs.declared.round.Round.{Round}
 use Rattle.ledger.specs.declared.afresh.Block.{Block}
 use Rattle.ledger.specs.declared.afresh.Block.the-variants.{Nothing, By}
 use Rattle.ledger.specs.declared.afresh.Tally.{Tally}
-use Rattle.ledger.specs.Lists.{omap, present, every, orBar, firstBar, weigh}
+use Rattle.ledger.specs.Lists.{omap, present, every, barAt, orBar, firstBar, weigh}
 use Rattle.ledger.specs.Changes.{follow, barOf, onward, together, renewing}
 use Rattle.ledger.specs.Ledger.{toSeat, stopOf, tally, begun, orBlock, heardBy, heardFrom, heardAt, heardAll, Ready, AllReady, blockedOr, firstBlock, Rounded}
 
@@ -222,3 +222,23 @@ module _ (pair : Pairing) (bounded : Bounded pair) where
     count = length-map ts (heardFrom pair s) ∙ g .count;
     each = λ j. subst (Counted (n + 1)) (sym (List·getD-map (heardFrom pair s) ts j (begun none))) (counted-more n s (getD ts j (begun none)) (g .each j));
   }
+
+-- ---- the first that is blocked: what is left to look at decides
+
+module _ (ts : List Tally) (j : ℕ) (h : j < length ts) (g : firstBlock 0 ts ≡ firstBlock j (drop j ts)) where
+  tally-at : firstBlock j (drop j ts) ≡ firstBlock j (getD ts j (begun none) ∷ drop (j + 1) ts)
+  tally-at = ap (firstBlock j) (rw add-one (drop-cons ts j (begun none) h))
+
+  pub block-next : getD ts j (begun none) .block ≡ Nothing → firstBlock 0 ts ≡ firstBlock (j + 1) (drop (j + 1) ts)
+  unfolding firstBlock
+  block-next e =
+      g ∙ tally-at ∙ ap (λ (b : Block). blockedOr j b (firstBlock (suc j) (drop (j + 1) ts))) e
+      ∙ ap (λ (n : ℕ). firstBlock n (drop (j + 1) ts)) (sym (add-one j))
+
+  pub block-here : (b : Bar) → getD ts j (begun none) .block ≡ By b → firstBlock 0 ts ≡ some (barAt j b)
+  unfolding firstBlock
+  block-here b e = g ∙ tally-at ∙ ap (λ (c : Block). blockedOr j c (firstBlock (suc j) (drop (j + 1) ts))) e
+
+pub block-over : (ts : List Tally) (j : ℕ) → length ts ≤ j → firstBlock 0 ts ≡ firstBlock j (drop j ts) → firstBlock 0 ts ≡ none
+unfolding firstBlock
+block-over ts j h g = g ∙ ap (firstBlock j) (drop-of-length-le ts {i = j} h)

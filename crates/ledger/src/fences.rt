@@ -1,6 +1,8 @@
 // The standing walls of a book as numbers, five for each, gathered once for a call: as they are, or as they would be with one slot changed.
 // What the numbers are is `laid` of the crate screen.
+use course::Ends;
 use road::fields;
+use screen::Wall;
 use store::WallSlot;
 ghost use mathlib.Core.Path.{_≡_};
 ghost use mathlib.Core.Bool.{false};
@@ -36,7 +38,17 @@ fn slot_at(store: &[u8], k: usize, changes: usize, other: WallSlot) -> WallSlot
     if k == changes {
         return other;
     }
-    store::walls::wall_slot(store, k)
+    if store::walls::marked(store, k) {
+        return store::walls::wall_slot(store, k);
+    }
+    let ends = Ends {
+        x1: 0,
+        y1: 0,
+        x2: 0,
+        y2: 0,
+    };
+    let wall = Wall { ends, height: 0 };
+    WallSlot { used: false, wall }
 }
 
 // Gathers the standing walls, the slot that changes as it is to be, and tells how many numbers they have. Where the slot that changes is

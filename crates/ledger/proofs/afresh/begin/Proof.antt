@@ -15,14 +15,14 @@ vacant-requires c κs = search needs
 
 returns : tie.Need-returns
 returns c =
-    let a = c .before .before .args in
+    let a = c .before .before .before .args in
     ap (λ (t : Seat). tally t Nothing) (c .vacant .ensures)
-    ∙ sym (ap (λ (b : Bool). begun (cond b (some (a .seat .held)) none)) (not-true _ (c .before .if1 .taken)))
+    ∙ sym (ap (λ (b : Bool). begun (cond b (some (a .seat .held)) none)) (not-true (a .seat .used) (c .before .if1 .taken)))
 
 returns-2 : tie.Need-returns-2
 returns-2 c =
-    let a = c .before .before .args in
-    sym (ap (λ (b : Bool). begun (cond b (some (a .seat .held)) none)) (not-false _ (c .if1 .left)))
+    let a = c .before .before .before .before .args in
+    sym (ap (λ (b : Bool). begun (cond b (some (a .seat .held)) none)) (not-false (a .seat .used) (c .before .before .if1 .left)))
 
 pub begin-spec : {M : Type 1} → statement M
 begin-spec = tie.close (tie.spec vacant-requires returns returns-2)
