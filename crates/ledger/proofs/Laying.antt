@@ -3,7 +3,7 @@ use mathlib.Core.Path.{_≡_, refl, sym, ap, _∙_, subst}
 use mathlib.Core.Bool.{Bool, true, false, cond}
 use mathlib.Core.Option.{Option, none, some}
 use mathlib.Core.List.{List, [], _∷_, _++_, append-assoc, append-nil}
-use Prim.Native.Nat.{ℕ, _+_, _*_, _≤_, _<_}
+use Prim.Native.Nat.{ℕ, zero, suc, _+_, _*_, _≤_, _<_}
 use native.Mathlib.Numerals.{add-one}
 use native.Mathlib.Omega.{arith}
 use lib.ListN.{length, getD, set, take, drop, length-set, drop-of-length-le}
@@ -11,9 +11,13 @@ use lib.Seq.{drop-cons}
 use Rattle.layout.specs.Over.{over}
 use Rattle.layout.proofs.Writes.{length-over, take-over-end}
 use Rattle.screen.specs.declared.Wall.{Wall}
-use Rattle.screen.specs.Screen.{wallNumbers, laid}
+use Rattle.screen.specs.Screen.{wallNumbers, laid, wallsOf, AllOnPlan, Laid}
+use Rattle.screen.proofs.Lists.{laid-walls}
+use Rattle.road.proofs.Fit.{fit-wall}
+use Rattle.store.specs.Slots.{Each}
+use Rattle.store.specs.Store.{WallStands}
 use Rattle.ledger.specs.Lists.{present}
-use Rattle.ledger.specs.Ledger.{laidAt}
+use Rattle.ledger.specs.Ledger.{laidAt, Gives, Fenced}
 
 pub record Laying (l : List (Option Wall)) (numbers : List ℕ) (at k : ℕ) : Type 0 where
   pub count : length numbers ≡ 320
@@ -59,3 +63,25 @@ laying-over l numbers at k h g =
     sym (append-nil (take at numbers))
     ∙ sym (ap (λ (m : List (Option Wall)). take at numbers ++ laid (present m)) (drop-of-length-le l {i = k} h))
     ∙ g .rest
+
+-- ---- walls that stand can be lent
+
+all-on-plan : (l : List (Option Wall)) → Each WallStands l → AllOnPlan (present l)
+all-on-plan [] h = tt
+all-on-plan (none ∷ l) h = all-on-plan l (λ i. h (suc i))
+all-on-plan (some w ∷ l) h = (fit-wall w (h 0 w refl), all-on-plan l (λ i. h (suc i)))
+
+pub fenced : (l : List (Option Wall)) (n : ℕ) (numbers : List ℕ) → Each WallStands l → Gives (present l) n numbers → Fenced (present l) n numbers
+unfolding Laid
+fenced l n numbers h g =
+    let w : wallsOf (take n numbers) ≡ present l = ap wallsOf (g .is) ∙ laid-walls (present l) in
+    record { part = omega (arith, g .count, g .part); laid = subst AllOnPlan (sym w) (all-on-plan l h); walls = w }
+
+pub fenced-as : (l m : List (Option Wall)) → l ≡ m → (n : ℕ) (numbers : List ℕ) → Each WallStands m → Gives (present l) n numbers → Fenced (present m) n numbers
+fenced-as l m e n numbers h g = fenced m n numbers h (subst (λ (k : List (Option Wall)). Gives (present k) n numbers) e g)
+
+-- a slot that is none of the list's changes nothing
+pub set-beyond : (l : List (Option Wall)) (k : ℕ) (o : Option Wall) → length l ≤ k → set l k o ≡ l
+set-beyond [] k o h = refl
+set-beyond (x ∷ l) zero o h = absurd (omega arith)
+set-beyond (x ∷ l) (suc k) o h = ap (λ (m : List (Option Wall)). x ∷ m) (set-beyond l k o (omega arith))

@@ -6,7 +6,7 @@ use mathlib.Core.Path.{_≡_}
 use mathlib.Core.Bool.{true, false, cond, not}
 use mathlib.Core.Option.{Option, none, some}
 use mathlib.Core.List.{List, [], _∷_, map}
-use lib.ListN.{length, getD, set}
+use lib.ListN.{length, getD, set, take}
 use Rattle.answer.specs.declared.Refusal.{Refusal}
 use Rattle.road.specs.declared.Source.{Source}
 use Rattle.road.specs.declared.Receiver.{Receiver}
@@ -20,7 +20,7 @@ use Rattle.road.specs.Judge.{receiverVerdict}
 use Rattle.level.specs.Level.{top}
 use Rattle.layout.specs.Over.{over}
 use Rattle.screen.specs.declared.Wall.{Wall}
-use Rattle.screen.specs.Screen.{wallNumbers}
+use Rattle.screen.specs.Screen.{wallNumbers, laid, wallsOf, Laid}
 use Rattle.store.specs.declared.Account.{Account}
 use Rattle.store.specs.declared.Held.{Held}
 use Rattle.store.specs.declared.Seat.{Seat}
@@ -170,3 +170,15 @@ firstBlock j (t ∷ ts) = blockedOr j (t .block) (firstBlock (suc j) ts)
 abbrev pub laidAt : Option Wall → ℕ → List ℕ → ℕ × List ℕ
 laidAt none at l = (at, l)
 laidAt (some w) at l = (at + 5, over at (wallNumbers w) l)
+
+-- the first n numbers are those of the walls ws
+pub record Gives (ws : List Wall) (n : ℕ) (l : List ℕ) : Type 0 where
+  pub count : length l ≡ 320
+  pub part : n ≤ 320
+  pub is : take n l ≡ laid ws
+
+-- and so can be lent
+pub record Fenced (ws : List Wall) (n : ℕ) (l : List ℕ) : Type 0 where
+  pub part : n ≤ length l
+  pub laid : Laid (take n l)
+  pub walls : wallsOf (take n l) ≡ ws

@@ -5,14 +5,13 @@ use road::fields;
 use screen::Wall;
 use store::WallSlot;
 ghost use mathlib.Core.Path.{_≡_};
-ghost use mathlib.Core.Bool.{false};
-ghost use mathlib.Core.Option.{none};
+ghost use mathlib.Core.Bool.{true, false, cond};
+ghost use mathlib.Core.Option.{none, some};
 ghost use Prim.Native.Nat.{_+_, _≤_, _<_};
-ghost use lib.ListN.{length, getD, take, set};
-ghost use Rattle.screen.specs.Screen.{laid};
-ghost use Rattle.store.specs.Store.{wallCount, damaged, bookOf, wallSlotEntry};
+ghost use lib.ListN.{length, getD, set};
+ghost use Rattle.store.specs.Store.{wallCount, damaged, bookOf, wallSlotEntry, WallStands};
 ghost use Rattle.ledger.specs.Lists.{present};
-ghost use Rattle.ledger.specs.Ledger.{laidAt};
+ghost use Rattle.ledger.specs.Ledger.{laidAt, Gives, Fenced};
 
 // As many numbers as the walls of a full book have.
 pub const NUMBERS: usize = store::WALLS * screen::NUMBERS;
@@ -30,6 +29,20 @@ fn lay_slot(slot: WallSlot, numbers: &mut [u64], at: usize) -> usize
     at + screen::NUMBERS
 }
 
+// A slot with nothing in it.
+fn vacant() -> WallSlot
+    ensures { λ t. ⌜ wallSlotEntry t ≡ none ⌝ }
+{
+    let ends = Ends {
+        x1: 0,
+        y1: 0,
+        x2: 0,
+        y2: 0,
+    };
+    let wall = Wall { ends, height: 0 };
+    WallSlot { used: false, wall }
+}
+
 // Slot k; where it is the slot that changes, as it is to be.
 fn slot_at(store: &[u8], k: usize, changes: usize, other: WallSlot) -> WallSlot
     requires { ⌜ (damaged (now store) ≡ false) × (k < wallCount) ⌝ }
@@ -41,21 +54,13 @@ fn slot_at(store: &[u8], k: usize, changes: usize, other: WallSlot) -> WallSlot
     if store::walls::marked(store, k) {
         return store::walls::wall_slot(store, k);
     }
-    let ends = Ends {
-        x1: 0,
-        y1: 0,
-        x2: 0,
-        y2: 0,
-    };
-    let wall = Wall { ends, height: 0 };
-    WallSlot { used: false, wall }
+    vacant()
 }
 
-// Gathers the standing walls, the slot that changes as it is to be, and tells how many numbers they have. Where the slot that changes is
-// none of the book's, they are as they stand.
-pub fn gather(store: &[u8], changes: usize, other: WallSlot, numbers: &mut [u64]) -> usize
+// Gathers the standing walls, the slot that changes as it is to be, and tells how many numbers they have.
+fn gather(store: &[u8], changes: usize, other: WallSlot, numbers: &mut [u64]) -> usize
     requires { ⌜ (damaged (now store) ≡ false) × (length (now numbers) ≡ 320) ⌝ }
-    ensures { λ n. ⌜ (n ≤ 320) × (length (now (numbers .exit)) ≡ 320) × (take n (now (numbers .exit)) ≡ laid (present (set (bookOf (now (store .entry)) .walls) changes (wallSlotEntry other)))) ⌝ }
+    ensures { λ n. ⌜ Gives (present (set (bookOf (now (store .entry)) .walls) changes (wallSlotEntry other))) n (now (numbers .exit)) ⌝ }
 {
     let mut at = 0;
     let mut k = 0;
@@ -65,4 +70,24 @@ pub fn gather(store: &[u8], changes: usize, other: WallSlot, numbers: &mut [u64]
         k += 1;
     }
     at
+}
+
+// Gathers the standing walls as they are.
+pub fn standing(store: &[u8], numbers: &mut [u64]) -> usize
+    requires { ⌜ (damaged (now store) ≡ false) × (length (now numbers) ≡ 320) ⌝ }
+    ensures { λ n. ⌜ Fenced (present (bookOf (now (store .entry)) .walls)) n (now (numbers .exit)) ⌝ }
+{
+    gather(store, store::WALLS, vacant(), numbers)
+}
+
+// Gathers them as they would be with the wall w in slot k, or with nothing in it.
+pub fn changed(store: &[u8], k: usize, w: Wall, adding: bool, numbers: &mut [u64]) -> usize
+    requires { ⌜ (damaged (now store) ≡ false) × (adding ≡ true → WallStands w) × (length (now numbers) ≡ 320) ⌝ }
+    ensures { λ n. ⌜ Fenced (present (set (bookOf (now (store .entry)) .walls) k (cond adding (some w) none))) n (now (numbers .exit)) ⌝ }
+{
+    let slot = WallSlot {
+        used: adding,
+        wall: w,
+    };
+    gather(store, k, slot, numbers)
 }

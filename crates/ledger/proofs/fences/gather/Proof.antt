@@ -64,12 +64,13 @@ returns c =
     let s = c .before .before .before .before in
     let a = s .args in
     let l = set (bookOf (a .store .now) .walls) (a .changes) (wallSlotEntry (a .other)) in
-    let g = lp .loop .inv .1 in (
-      omega (arith, g .room, lp .loop .inv .0),
-      g .count,
-      laying-over l (lp .loop .numbers) (lp .loop .at) (lp .loop .k)
-          (omega (arith, c .loop-test .left, sound-book (a .store .now) (s .pre .0) .wall-slots, length-set (bookOf (a .store .now) .walls) (a .changes) (wallSlotEntry (a .other)))) g,
-    )
+    let g = lp .loop .inv .1 in
+    record {
+      count = g .count;
+      part = omega (arith, g .room, lp .loop .inv .0);
+      is = laying-over l (lp .loop .numbers) (lp .loop .at) (lp .loop .k)
+          (omega (arith, c .loop-test .left, sound-book (a .store .now) (s .pre .0) .wall-slots, length-set (bookOf (a .store .now) .walls) (a .changes) (wallSlotEntry (a .other)))) g;
+    }
 
 pub gather-spec : {M : Type 1} → statement M
 gather-spec =

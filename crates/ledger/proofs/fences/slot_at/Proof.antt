@@ -39,12 +39,15 @@ returns-2 c =
     other (bookOf (a .store .now) .walls) (a .changes) (a .k) (wallSlotEntry (a .other)) _ (c .before .before .before .if1 .left)
     (ap wallSlotEntry (c .wall-slot .ensures) ∙ sym (wall-slot-is (a .store .now) (a .k) (s .pre .0) (s .pre .1)))
 
+vacant-requires : tie.Need-vacant-requires
+vacant-requires c κs = search needs
+
 returns-3 : tie.Need-returns-3
 returns-3 c =
-    let s = c .before .before .before .before in
+    let s = c .before .before .before .before .before in
     let a = s .args in
-    other (bookOf (a .store .now) .walls) (a .changes) (a .k) (wallSlotEntry (a .other)) none (c .before .before .if1 .left)
-    (sym (wall-slot-free (a .store .now) (a .k) (s .pre .0) (s .pre .1) (sym (c .before .marked .ensures) ∙ c .if2 .left)))
+    other (bookOf (a .store .now) .walls) (a .changes) (a .k) (wallSlotEntry (a .other)) _ (c .before .before .before .if1 .left)
+    (c .vacant .ensures ∙ sym (wall-slot-free (a .store .now) (a .k) (s .pre .0) (s .pre .1) (sym (c .before .before .marked .ensures) ∙ c .before .if2 .left)))
 
 pub slot-at-spec : {M : Type 1} → statement M
-slot-at-spec = tie.close (tie.spec returns marked-requires wall-slot-requires returns-2 returns-3)
+slot-at-spec = tie.close (tie.spec returns marked-requires wall-slot-requires returns-2 vacant-requires returns-3)
