@@ -4,9 +4,10 @@ use Prim.Native.Nat.{ℕ}
 use mathlib.Core.Path.{_≡_}
 use mathlib.Core.Bool.{Bool, false}
 use mathlib.Core.Option.{Option, none, some}
-use lib.ListN.{getD}
+use lib.ListN.{getD, set}
 use Rattle.answer.specs.declared.Refusal.{Refusal}
 use Rattle.answer.specs.declared.Refusal.the-variants.{Damaged, Taken}
+use Rattle.screen.specs.declared.Wall.{Wall}
 use Rattle.road.specs.declared.Source.{Source}
 use Rattle.road.specs.declared.Receiver.{Receiver}
 use Rattle.road.specs.declared.Verdict.{Verdict}
@@ -15,9 +16,9 @@ use Rattle.road.specs.Reach.{pairOf}
 use Rattle.store.specs.declared.Held.{Held}
 use Rattle.store.specs.Store.{Book}
 use Rattle.ledger.specs.Lists.{present, every, firstBar}
-use Rattle.ledger.specs.Changes.{barOf, coming}
-use Rattle.undamaged.specs.Calls.{Step, allow, intoFree, unlessBarred, unlessLate, refuse, placeSource, placeReceiver}
-use Rattle.undamaged.specs.Order.{sourceJudged, receiverJudged, InOrder}
+use Rattle.ledger.specs.Changes.{barOf, coming, renewing}
+use Rattle.undamaged.specs.Calls.{Step, allow, intoFree, unlessBarred, unlessLate, refuse, pairIn, placeSource, placeReceiver, placeWall}
+use Rattle.undamaged.specs.Order.{sourceJudged, receiverJudged, wallJudged, InOrder}
 
 -- ---- each gate, whatever stands behind it
 
@@ -46,13 +47,13 @@ module _ (i : ℕ) (s : Source) (b : Book) where
   unfolding placeSource
   source-taken = by-taken _ _ _
 
-  source-barred : (why : Refusal) → sourceJudged i s ≡ Allowed → getD (b .sources) i none ≡ none → barOf (coming pairOf s) (b .receivers) ≡ some why
+  source-barred : (why : Refusal) → sourceJudged i s ≡ Allowed → getD (b .sources) i none ≡ none → barOf (coming (pairIn b) s) (b .receivers) ≡ some why
       → placeSource i s b ≡ refuse why
   unfolding placeSource
   source-barred = by-barred _ _ _ _
 
-  source-late : sourceJudged i s ≡ Allowed → getD (b .sources) i none ≡ none → barOf (coming pairOf s) (b .receivers) ≡ none
-      → every (coming pairOf s .fits) (present (b .receivers)) ≡ false → placeSource i s b ≡ refuse Damaged
+  source-late : sourceJudged i s ≡ Allowed → getD (b .sources) i none ≡ none → barOf (coming (pairIn b) s) (b .receivers) ≡ none
+      → every (coming (pairIn b) s .fits) (present (b .receivers)) ≡ false → placeSource i s b ≡ refuse Damaged
   unfolding placeSource
   source-late = by-late _ _ _ _ _
 
@@ -66,9 +67,23 @@ module _ (j : ℕ) (r : Receiver) (b : Book) where
   receiver-taken = by-taken _ _ _
 
   receiver-barred : (why : Refusal) → receiverJudged j r ≡ Allowed → getD (b .receivers) j none ≡ none
-      → firstBar (λ (s : Source). pairOf s r) 0 (b .sources) ≡ some why → placeReceiver j r b ≡ refuse why
+      → firstBar (λ (s : Source). pairIn b s r) 0 (b .sources) ≡ some why → placeReceiver j r b ≡ refuse why
   unfolding placeReceiver
   receiver-barred = by-barred _ _ _ _
+
+module _ (k : ℕ) (w : Wall) (b : Book) where
+  wall-fields : (why : Refusal) → wallJudged k w ≡ Refused why → placeWall k w b ≡ refuse why
+  unfolding placeWall
+  wall-fields = by-fields _ _
+
+  wall-taken : (a : Wall) → wallJudged k w ≡ Allowed → getD (b .walls) k none ≡ some a → placeWall k w b ≡ refuse Taken
+  unfolding placeWall
+  wall-taken = by-taken _ _ _
+
+  wall-barred : (why : Refusal) → wallJudged k w ≡ Allowed → getD (b .walls) k none ≡ none
+      → barOf (renewing (pairOf (present (set (b .walls) k (some w)))) (present (b .sources))) (b .receivers) ≡ some why → placeWall k w b ≡ refuse why
+  unfolding placeWall
+  wall-barred = by-barred _ _ _ _
 
 pub in-order : InOrder
 in-order = record {
@@ -81,4 +96,5 @@ in-order = record {
       };
   receiver = λ j r b.
       record { fields-first = receiver-fields j r b; then-taken = receiver-taken j r b; then-barred = receiver-barred j r b };
+  wall = λ k w b. record { fields-first = wall-fields k w b; then-taken = wall-taken k w b; then-barred = wall-barred k w b };
 }

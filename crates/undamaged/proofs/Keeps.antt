@@ -5,27 +5,28 @@ use mathlib.Core.Bool.{Bool, true, false}
 use mathlib.Core.Option.{Option, none, some}
 use mathlib.Core.List.{List, [], _∷_, map}
 use Prim.Native.Nat.{ℕ, zero, suc}
-use lib.ListN.{length, getD, length-map}
+use lib.ListN.{length, getD, set, length-map}
 use Rattle.answer.specs.declared.Refusal.{Refusal}
+use Rattle.screen.specs.declared.Wall.{Wall}
 use Rattle.road.specs.declared.Source.{Source}
 use Rattle.road.specs.declared.Receiver.{Receiver}
 use Rattle.road.specs.declared.Verdict.{Verdict}
 use Rattle.road.specs.declared.Verdict.the-variants.{Allowed, Refused as Barring}
 use Rattle.road.specs.Reach.{pairOf}
 use Rattle.road.proofs.Pairs.{pair-bounded}
-use Rattle.road.specs.Judge.{sourceVerdict, receiverVerdict, slotVerdict}
+use Rattle.road.specs.Judge.{sourceVerdict, receiverVerdict, wallVerdict, slotVerdict}
 use Rattle.store.specs.declared.Held.{Held}
 use Rattle.store.specs.Slots.{Each}
-use Rattle.store.specs.Store.{lastSource, lastReceiver, Book, book, damaged, bookOf, SourceStands, HeldStands, SoundBook}
-use Rattle.store.proofs.Laws.{many-sources, sound-book, book-bytes, sound-source, sound-held}
+use Rattle.store.specs.Store.{lastSource, lastReceiver, lastWall, Book, book, damaged, bookOf, SourceStands, HeldStands, WallStands, SoundBook}
+use Rattle.store.proofs.Laws.{many-sources, sound-book, book-bytes, sound-source, sound-held, sound-wall}
 use Rattle.undamaged.specs.declared.Answer.{Answer}
 use Rattle.ledger.specs.Lists.{omap, present, every, firstBar, weigh}
-use Rattle.ledger.specs.Changes.{Change, follow, barOf, coming, going}
+use Rattle.ledger.specs.Changes.{Change, follow, barOf, coming, going, renewing}
 use Rattle.undamaged.specs.Calls.{Step, refuse, tell, change, allow, intoFree, fromUsed, unlessBarred, unlessLate}
-use Rattle.undamaged.specs.Calls.{changeSource, placeSource, withdrawSource, placeReceiver, withdrawReceiver, askReceiver, told}
+use Rattle.undamaged.specs.Calls.{pairIn, followed, changeSource, placeSource, withdrawSource, placeReceiver, withdrawReceiver, changeWall, placeWall, withdrawWall, askReceiver, told}
 use Rattle.road.proofs.Judged.{slot-allowed}
 use Rattle.ledger.proofs.Rounds.{and-both}
-use Rattle.undamaged.proofs.Rounded.{KeepsSound, coming-sound, going-sound}
+use Rattle.undamaged.proofs.Rounded.{KeepsSound, coming-sound, going-sound, renewing-sound}
 use Rattle.undamaged.proofs.Sums.{never, weigh-sound}
 
 -- ---- a book that a store can hold, or no change
@@ -66,31 +67,44 @@ moved-stand f p (none ∷ l) h e k (suc j) y q = moved-stand f p l (λ i. h (suc
 moved-stand f p (some x ∷ l) h e k (suc j) y q = moved-stand f p l (λ i. h (suc i)) (and-both (p x) (every p (present l)) e .1) k j y q
 
 moved-sound : (b : Book) (f : Held → Held) (p : Held → Bool) → SoundBook b → every p (present (b .receivers)) ≡ true
-    → ((x : Held) → HeldStands x → p x ≡ true → HeldStands (f x)) → SoundBook (book (b .sources) (map (omap f) (b .receivers)))
+    → ((x : Held) → HeldStands x → p x ≡ true → HeldStands (f x)) → SoundBook (book (b .sources) (map (omap f) (b .receivers)) (b .walls))
 moved-sound b f p h e k = record {
   source-slots = h .source-slots;
+  wall-slots = h .wall-slots;
   seats = length-map (b .receivers) (omap f) ∙ h .seats;
   sources-stand = h .sources-stand;
+  walls-stand = h .walls-stand;
   receivers-stand = moved-stand f p (b .receivers) (h .receivers-stand) e k;
 }
 
 -- ---- the calls
 
 module _ (b : Book) (h : SoundBook b) where
-  -- a change after which slot i holds o
-  changed : (c : Change) → KeepsSound c → (i : ℕ) (o : Option Source) → ((a : Source) → o ≡ some a → SourceStands a) → Keep (changeSource c i o b)
-  changed c k i o f =
+  -- a change that all receivers follow
+  all-followed : (c : Change) → KeepsSound c → (after : List (Option Held) → Book)
+      → (SoundBook (book (b .sources) (map (omap (follow c)) (b .receivers)) (b .walls)) → SoundBook (after (map (omap (follow c)) (b .receivers))))
+      → Keep (followed c after b)
+  all-followed c k after f =
       keep-unbarred (barOf c (b .receivers)) _ λ w.
       keep-intime (every (c .fits) (present (b .receivers))) _ λ t.
-      sound-source (book (b .sources) (map (omap (follow c)) (b .receivers))) i o
-      (moved-sound b (follow c) (c .fits) h t (λ x st r. (st .0, k x (st .1) r))) f
+      f (moved-sound b (follow c) (c .fits) h t (λ x st r. (st .0, k x (st .1) r)))
+
+  -- after which source slot i holds o; after which wall slot k does
+  changed : (c : Change) → KeepsSound c → (i : ℕ) (o : Option Source) → ((a : Source) → o ≡ some a → SourceStands a) → Keep (changeSource c i o b)
+  changed c k i o f = all-followed c k _ (λ m. sound-source (book (b .sources) (map (omap (follow c)) (b .receivers)) (b .walls)) i o m f)
+
+  wall-changed : (k : ℕ) (o : Option Wall) → ((a : Wall) → o ≡ some a → WallStands a) → Keep (changeWall k o b)
+  wall-changed k o f =
+      let c = renewing (pairOf (present (set (b .walls) k o))) (present (b .sources)) in
+      all-followed c (renewing-sound _ (b .sources) (h .source-slots ∙ sym many-sources)) _
+      (λ m. sound-wall (book (b .sources) (map (omap (follow c)) (b .receivers)) (b .walls)) k o m f)
 
   pub source-in : (i : ℕ) (s : Source) → length (s .traffic) ≡ 3 → Keep (placeSource i s b)
   unfolding placeSource
   source-in i s n =
       keep-allowed (slotVerdict lastSource i (sourceVerdict s)) _ λ v.
       keep-free (getD (b .sources) i none) _ λ w.
-      changed (coming pairOf s) (coming-sound pairOf s) i (some s)
+      changed (coming (pairIn b) s) (coming-sound (pairIn b) s) i (some s)
       (λ (a : Source) e. (let same : s ≡ a = cc in subst SourceStands same (slot-allowed lastSource i (sourceVerdict s) v .1, n)))
 
   pub source-out : (i : ℕ) → Keep (withdrawSource i b)
@@ -98,20 +112,20 @@ module _ (b : Book) (h : SoundBook b) where
   source-out i =
       keep-allowed (slotVerdict lastSource i Allowed) _ λ v.
       keep-used (getD (b .sources) i none) _ λ s.
-      changed (going pairOf s) (going-sound pairOf s) i none (λ (a : Source) e. never cc)
+      changed (going (pairIn b) s) (going-sound (pairIn b) s) i none (λ (a : Source) e. never cc)
 
   pub receiver-in : (j : ℕ) (r : Receiver) → Keep (placeReceiver j r b)
   unfolding placeReceiver
   receiver-in j r =
       keep-allowed (slotVerdict lastReceiver j (receiverVerdict r)) _ λ v.
       keep-free (getD (b .receivers) j none) _ λ w.
-      keep-unbarred (firstBar (λ (s : Source). pairOf s r) 0 (b .sources)) _ λ o.
-      sound-held b j (some (weigh pairOf (present (b .sources)) r)) h
+      keep-unbarred (firstBar (λ (s : Source). pairIn b s r) 0 (b .sources)) _ λ o.
+      sound-held b j (some (weigh (pairIn b) (present (b .sources)) r)) h
       (λ (a : Held) e. (
-      let same : weigh pairOf (present (b .sources)) r ≡ a = cc in
+      let same : weigh (pairIn b) (present (b .sources)) r ≡ a = cc in
       subst HeldStands same (
         slot-allowed lastReceiver j (receiverVerdict r) v .1,
-        weigh-sound pairOf pair-bounded (b .sources) r (h .source-slots ∙ sym many-sources),
+        weigh-sound (pairIn b) (pair-bounded (present (b .walls))) (b .sources) r (h .source-slots ∙ sym many-sources),
       )
       ))
 
@@ -121,6 +135,20 @@ module _ (b : Book) (h : SoundBook b) where
       keep-allowed (slotVerdict lastReceiver j Allowed) _ λ v.
       keep-used (getD (b .receivers) j none) _ λ x.
       sound-held b j none h (λ (a : Held) e. never cc)
+
+  pub wall-in : (k : ℕ) (w : Wall) → Keep (placeWall k w b)
+  unfolding placeWall
+  wall-in k w =
+      keep-allowed (slotVerdict lastWall k (wallVerdict w)) _ λ v.
+      keep-free (getD (b .walls) k none) _ λ f.
+      wall-changed k (some w) (λ (a : Wall) e. (let same : w ≡ a = cc in subst WallStands same (slot-allowed lastWall k (wallVerdict w) v .1)))
+
+  pub wall-out : (k : ℕ) → Keep (withdrawWall k b)
+  unfolding withdrawWall
+  wall-out k =
+      keep-allowed (slotVerdict lastWall k Allowed) _ λ v.
+      keep-used (getD (b .walls) k none) _ λ w.
+      wall-changed k none (λ (a : Wall) e. never cc)
 
   pub asked : (j : ℕ) → Keep (askReceiver j b)
   unfolding askReceiver
@@ -149,3 +177,9 @@ module _ (s : List ℕ) (d : damaged s ≡ false) {a : Answer} {u : List ℕ} wh
 
   pub receiver-out-kept : (j : ℕ) → (a, u) ≡ told s (withdrawReceiver j (bookOf s)) → damaged u ≡ false
   receiver-out-kept j = kept (withdrawReceiver j (bookOf s)) (receiver-out (bookOf s) (sound-book s d) j)
+
+  pub wall-in-kept : (k : ℕ) (w : Wall) → (a, u) ≡ told s (placeWall k w (bookOf s)) → damaged u ≡ false
+  wall-in-kept k w = kept (placeWall k w (bookOf s)) (wall-in (bookOf s) (sound-book s d) k w)
+
+  pub wall-out-kept : (k : ℕ) → (a, u) ≡ told s (withdrawWall k (bookOf s)) → damaged u ≡ false
+  wall-out-kept k = kept (withdrawWall k (bookOf s)) (wall-out (bookOf s) (sound-book s d) k)

@@ -10,6 +10,8 @@ use native.Mathlib.Nat.{sub-le}
 use lib.ListN.{length, getD, length-map}
 use borrow.Author.Tests.{le-leb}
 use Rattle.answer.specs.declared.Refusal.{Refusal}
+use Rattle.answer.specs.declared.Refusal.the-variants.{Damaged}
+use Rattle.screen.specs.declared.Wall.{Wall}
 use Rattle.road.specs.declared.Source.{Source}
 use Rattle.road.specs.declared.Shares.{Shares}
 use Rattle.road.specs.Reach.{pairOf}
@@ -19,15 +21,20 @@ use Rattle.store.specs.declared.Held.{Held}
 use Rattle.store.specs.declared.Seat.{Seat}
 use Rattle.level.specs.Level.{top}
 use Rattle.store.specs.Account.{sound, minusOf}
-use Rattle.store.specs.Store.{receiverCount, Book, HeldStands, SoundBook}
+use Rattle.road.proofs.Pairs.{pair-bounded}
+use Rattle.store.specs.Store.{receiverCount, sourceSlots, Book, bookOf, bookBytes, HeldStands, SoundBook}
 use Rattle.store.proofs.Accounts.{sound-le}
 use Rattle.ledger.specs.declared.round.Stop.the-variants.{Nowhere, At}
 use Rattle.ledger.specs.declared.round.Round.{Round}
 use Rattle.ledger.specs.Lists.{omap, present, every}
-use Rattle.ledger.specs.Changes.{Change, follow, barOf, coming, going, changeBy}
+use Rattle.ledger.specs.Changes.{Change, follow, barOf, coming, going, renewing, changeBy}
 use Rattle.ledger.specs.Ledger.{vacant, toSeat, Rounded, seated, StandingSeats}
 use Rattle.ledger.proofs.Entries.{stop-none, stop-some}
 use Rattle.ledger.proofs.Rounds.{false-true, and-both, seated-map}
+use Rattle.undamaged.specs.declared.Answer.{Answer}
+use Rattle.undamaged.specs.declared.Answer.the-variants.{Done, Refused}
+use Rattle.undamaged.specs.Calls.{change, told, unlessBarred, unlessLate, followed}
+use Rattle.undamaged.proofs.Sums.{weigh-sound}
 
 -- ---- the seats of a round may be in the book
 
@@ -79,9 +86,13 @@ module _ (pair : Pairing) (s : Source) where
   pub going-sound : KeepsSound (going pair s)
   going-sound x e f = less-sound (x .sums) (brought (pair s (x .who))) e
 
-pub changes-sound : (adding : Bool) (s : Source) → KeepsSound (changeBy adding s)
-changes-sound true s = coming-sound pairOf s
-changes-sound false s = going-sound pairOf s
+pub changes-sound : (ws : List Wall) (adding : Bool) (s : Source) → KeepsSound (changeBy ws adding s)
+changes-sound ws true s = coming-sound (pairOf ws) s
+changes-sound ws false s = going-sound (pairOf ws) s
+
+-- a change of walls: a source a slot at most
+pub renewing-sound : (ws : List Wall) (S : List (Option Source)) → length S ≡ sourceSlots → KeepsSound (renewing (pairOf ws) (present S))
+renewing-sound ws S n x e f = weigh-sound (pairOf ws) (pair-bounded ws) S (x .who) n
 
 -- ---- what the first pass tells of a change
 
@@ -106,3 +117,24 @@ module _ (c : Change) (b : Book) (r : Round) (g : Rounded c (b .receivers) r) wh
           h .receivers-stand j x q .0,
           k x (h .receivers-stand j x q .1) (every-at (c .fits) (b .receivers) (change-fits ∙ ap not f) j x q),
         )))
+
+-- ---- what a call answers and leaves, by what the first pass tells
+
+module _ (s : List ℕ) (c : Change) (after : List (Option Held) → Book) (r : Round) (g : Rounded c (bookOf s .receivers) r) where
+  comes-to : Option Refusal → Bool → Answer × List ℕ
+  comes-to b fits = told s (unlessBarred b (unlessLate fits (change (after (map (omap (follow c)) (bookOf s .receivers))))))
+
+  pub told-barred : (why : Refusal) → r .stop ≡ At why → (Refused why, s) ≡ told s (followed c after (bookOf s))
+  unfolding comes-to
+  told-barred why e = ap (λ (b : Option Refusal). comes-to b (every (c .fits) (present (bookOf s .receivers)))) (sym (change-barred c (bookOf s) r g why e))
+
+  module _ (e : r .stop ≡ Nowhere) where
+    pub told-late : r .late ≡ true → (Refused Damaged, s) ≡ told s (followed c after (bookOf s))
+    unfolding comes-to
+    told-late f = ap₂ comes-to (sym (change-clear c (bookOf s) r g e)) (sym (change-fits c (bookOf s) r g e ∙ ap not f))
+
+    pub told-done : (u : List ℕ) → r .late ≡ false → u ≡ bookBytes (after (seated (r .seats) (bookOf s .receivers))) → (Done, u) ≡ told s (followed c after (bookOf s))
+    unfolding comes-to
+    told-done u f w =
+        ap (λ (v : List ℕ). (Done, v)) (w ∙ ap (λ (l : List (Option Held)). bookBytes (after l)) (change-written c (bookOf s) r g e f))
+        ∙ ap₂ comes-to (sym (change-clear c (bookOf s) r g e)) (sym (change-fits c (bookOf s) r g e ∙ ap not f))

@@ -14,7 +14,6 @@ use Rattle.road.specs.declared.Source.{Source}
 use Rattle.road.specs.declared.Receiver.{Receiver}
 use Rattle.road.specs.declared.Pair.{Pair}
 use Rattle.road.specs.declared.Pair.the-variants.{Heard, Barred}
-use Rattle.road.specs.Reach.{pairOf}
 use Rattle.road.specs.Pairs.{Pairing, isHeard, mostShare, shareIn, Bounded}
 use Rattle.level.specs.Level.{top}
 use Rattle.store.specs.Account.{sound}
@@ -59,8 +58,8 @@ module _ {A : Type 0} (pair : A → Pair) where
       go (Barred b) ih e = never cc
 
 -- a receiver hears each of these sources
-abbrev pub HearsAll : List Source → Receiver → Type 0
-HearsAll ss r = All (λ s. isHeard (pairOf s r) ≡ true) ss
+abbrev pub HearsAll : Pairing → List Source → Receiver → Type 0
+HearsAll pair ss r = All (λ s. isHeard (pair s r) ≡ true) ss
 
 -- a source a slot at most, each of at most 10^15: no sum passes the most that it may be
 pub weigh-sound : (pair : Pairing) → Bounded pair → (S : List (Option Source)) (r : Receiver) → length S ≡ sourceSlots → sound (weigh pair (present S) r .sums) ≡ true

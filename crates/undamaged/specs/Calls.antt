@@ -1,4 +1,4 @@
--- What each call of the book answers and leaves, in terms of the book: two lists of slots (METHOD 1 and 9).
+-- What each call of the book answers and leaves, in terms of the book: three lists of slots (METHOD 1 and 9).
 -- A call on bytes reads them as a book, asks one of these definitions, and writes the book that it gives.
 use Prim.Native.Nat.{ℕ}
 use mathlib.Core.Bool.{Bool, true, false, cond}
@@ -9,17 +9,20 @@ use lib.Dec.{eqb}
 use Rattle.answer.specs.declared.Refusal.{Refusal}
 use Rattle.answer.specs.Table.{numberBy, placeBy}
 use Rattle.answer.specs.declared.Refusal.the-variants.{Damaged, Taken, Vacant}
+use Rattle.screen.specs.declared.Wall.{Wall}
 use Rattle.road.specs.declared.Source.{Source}
 use Rattle.road.specs.declared.Receiver.{Receiver}
 use Rattle.road.specs.declared.Verdict.{Verdict}
 use Rattle.road.specs.declared.Verdict.the-variants.{Allowed}
 use Rattle.road.specs.declared.Verdict.the-variants.{Refused as Barring}
 use Rattle.road.specs.Reach.{pairOf}
-use Rattle.road.specs.Judge.{sourceVerdict, receiverVerdict, slotVerdict}
+use Rattle.road.specs.Pairs.{Pairing}
+use Rattle.road.specs.Judge.{sourceVerdict, receiverVerdict, wallVerdict, slotVerdict}
 use Rattle.index.specs.Index.{ldenOf, lnightOf}
-use Rattle.store.specs.Store.{lastSource, lastReceiver, Book, book, damaged, bookOf, bookBytes, storeLength, clearedBytes}
+use Rattle.store.specs.declared.Held.{Held}
+use Rattle.store.specs.Store.{lastSource, lastReceiver, lastWall, Book, book, damaged, bookOf, bookBytes, storeLength, clearedBytes}
 use Rattle.ledger.specs.Lists.{omap, present, every, firstBar, weigh}
-use Rattle.ledger.specs.Changes.{Change, follow, barOf, coming, going}
+use Rattle.ledger.specs.Changes.{Change, follow, barOf, coming, going, renewing}
 use Rattle.undamaged.specs.declared.Answer.{Answer}
 use Rattle.undamaged.specs.declared.Answer.the-variants.{Done, Levels, Refused}
 
@@ -66,7 +69,7 @@ module _ {A : Type 0} where
   fromUsed none k = refuse Vacant
   fromUsed (some a) k = k a
 
--- refusals 10 to 13, by the first bar
+-- refusals 10 to 14, by the first bar
 abbrev pub unlessBarred : Option Refusal → Step → Step
 unlessBarred none k = k
 unlessBarred (some r) k = refuse r
@@ -78,21 +81,29 @@ unlessLate false k = refuse Damaged
 
 -- ---- the calls: slot and fields first (5, 6, 7), then as each says
 
--- a change of source slot i, which then holds o: 10 to 13, then the late 1, then the slot and all receivers follow
-abbrev pub changeSource : Change → ℕ → Option Source → Book → Step
-changeSource c i o b =
+-- a pair among the walls that stand
+abbrev pub pairIn : Book → Pairing
+pairIn b = pairOf (present (b .walls))
+
+-- a change that all receivers follow: 10 to 14, then the late 1, then the book with the receivers as they are after it
+abbrev pub followed : Change → (List (Option Held) → Book) → Book → Step
+followed c after b =
     unlessBarred (barOf c (b .receivers))
     (unlessLate (every (c .fits) (present (b .receivers)))
-    (change (book (set (b .sources) i o) (map (omap (follow c)) (b .receivers)))))
+    (change (after (map (omap (follow c)) (b .receivers)))))
+
+-- a change of source slot i, which then holds o
+abbrev pub changeSource : Change → ℕ → Option Source → Book → Step
+changeSource c i o b = followed c (λ rs. book (set (b .sources) i o) rs (b .walls)) b
 
 abbrev pub enterSource : ℕ → Source → Book → Step
-enterSource i s b = intoFree (getD (b .sources) i none) (changeSource (coming pairOf s) i (some s) b)
+enterSource i s b = intoFree (getD (b .sources) i none) (changeSource (coming (pairIn b) s) i (some s) b)
 
 unfoldable pub placeSource : ℕ → Source → Book → Step
 placeSource i s b = allow (slotVerdict lastSource i (sourceVerdict s)) (enterSource i s b)
 
 abbrev pub leaveSource : ℕ → Book → Step
-leaveSource i b = fromUsed (getD (b .sources) i none) (λ s. changeSource (going pairOf s) i none b)
+leaveSource i b = fromUsed (getD (b .sources) i none) (λ s. changeSource (going (pairIn b) s) i none b)
 
 unfoldable pub withdrawSource : ℕ → Book → Step
 withdrawSource i b = allow (slotVerdict lastSource i Allowed) (leaveSource i b)
@@ -100,17 +111,35 @@ withdrawSource i b = allow (slotVerdict lastSource i Allowed) (leaveSource i b)
 abbrev pub enterReceiver : ℕ → Receiver → Book → Step
 enterReceiver j r b =
     intoFree (getD (b .receivers) j none)
-    (unlessBarred (firstBar (λ (s : Source). pairOf s r) 0 (b .sources))
-    (change (book (b .sources) (set (b .receivers) j (some (weigh pairOf (present (b .sources)) r))))))
+    (unlessBarred (firstBar (λ (s : Source). pairIn b s r) 0 (b .sources))
+    (change (book (b .sources) (set (b .receivers) j (some (weigh (pairIn b) (present (b .sources)) r))) (b .walls))))
 
 unfoldable pub placeReceiver : ℕ → Receiver → Book → Step
 placeReceiver j r b = allow (slotVerdict lastReceiver j (receiverVerdict r)) (enterReceiver j r b)
 
 abbrev pub leaveReceiver : ℕ → Book → Step
-leaveReceiver j b = fromUsed (getD (b .receivers) j none) (λ x. change (book (b .sources) (set (b .receivers) j none)))
+leaveReceiver j b = fromUsed (getD (b .receivers) j none) (λ x. change (book (b .sources) (set (b .receivers) j none) (b .walls)))
 
 unfoldable pub withdrawReceiver : ℕ → Book → Step
 withdrawReceiver j b = allow (slotVerdict lastReceiver j Allowed) (leaveReceiver j b)
+
+-- a change of wall slot k, which then holds o: every sum is worked out afresh among the walls that then stand
+abbrev pub changeWall : ℕ → Option Wall → Book → Step
+changeWall k o b =
+    followed (renewing (pairOf (present (set (b .walls) k o))) (present (b .sources)))
+    (λ rs. book (b .sources) rs (set (b .walls) k o)) b
+
+abbrev pub enterWall : ℕ → Wall → Book → Step
+enterWall k w b = intoFree (getD (b .walls) k none) (changeWall k (some w) b)
+
+unfoldable pub placeWall : ℕ → Wall → Book → Step
+placeWall k w b = allow (slotVerdict lastWall k (wallVerdict w)) (enterWall k w b)
+
+abbrev pub leaveWall : ℕ → Book → Step
+leaveWall k b = fromUsed (getD (b .walls) k none) (λ w. changeWall k none b)
+
+unfoldable pub withdrawWall : ℕ → Book → Step
+withdrawWall k b = allow (slotVerdict lastWall k Allowed) (leaveWall k b)
 
 abbrev pub indicesAt : ℕ → Book → Step
 indicesAt j b =

@@ -1,23 +1,24 @@
--- In which order a call refuses (METHOD 9: the lowest number that applies, 10 to 13 pair by pair, the late 1 after all else).
+-- In which order a call refuses (METHOD 9: the lowest number that applies, 10 to 14 pair by pair, the late 1 after all else).
 -- Each line says what is answered whatever holds of the tests behind it; `in-order` of proofs/Answered.antt proves them.
 use Prim.Native.Nat.{ℕ}
 use mathlib.Core.Path.{_≡_}
 use mathlib.Core.Bool.{false}
 use mathlib.Core.Option.{none, some}
-use lib.ListN.{getD}
+use lib.ListN.{getD, set}
 use Rattle.answer.specs.declared.Refusal.{Refusal}
 use Rattle.answer.specs.declared.Refusal.the-variants.{Damaged, Taken}
+use Rattle.screen.specs.declared.Wall.{Wall}
 use Rattle.road.specs.declared.Source.{Source}
 use Rattle.road.specs.declared.Receiver.{Receiver}
 use Rattle.road.specs.declared.Verdict.{Verdict}
 use Rattle.road.specs.declared.Verdict.the-variants.{Allowed, Refused}
 use Rattle.road.specs.Reach.{pairOf}
-use Rattle.road.specs.Judge.{sourceVerdict, receiverVerdict, slotVerdict}
+use Rattle.road.specs.Judge.{sourceVerdict, receiverVerdict, wallVerdict, slotVerdict}
 use Rattle.store.specs.declared.Held.{Held}
-use Rattle.store.specs.Store.{lastSource, lastReceiver, Book}
+use Rattle.store.specs.Store.{lastSource, lastReceiver, lastWall, Book}
 use Rattle.ledger.specs.Lists.{present, every, firstBar}
-use Rattle.ledger.specs.Changes.{barOf, coming}
-use Rattle.undamaged.specs.Calls.{refuse, placeSource, placeReceiver}
+use Rattle.ledger.specs.Changes.{barOf, coming, renewing}
+use Rattle.undamaged.specs.Calls.{refuse, pairIn, placeSource, placeReceiver, placeWall}
 
 -- the verdict on slot and fields, and the first pair that is barred
 abbrev pub sourceJudged : ℕ → Source → Verdict
@@ -26,17 +27,20 @@ sourceJudged i s = slotVerdict lastSource i (sourceVerdict s)
 abbrev pub receiverJudged : ℕ → Receiver → Verdict
 receiverJudged j r = slotVerdict lastReceiver j (receiverVerdict r)
 
+abbrev pub wallJudged : ℕ → Wall → Verdict
+wallJudged k w = slotVerdict lastWall k (wallVerdict w)
+
 pub record SourceOrder (i : ℕ) (s : Source) (b : Book) : Type 0 where
   -- 5, 6 and 7
   pub fields-first : (why : Refusal) → sourceJudged i s ≡ Refused why → placeSource i s b ≡ refuse why
   -- 8
   pub then-taken : (a : Source) → sourceJudged i s ≡ Allowed → getD (b .sources) i none ≡ some a → placeSource i s b ≡ refuse Taken
-  -- 10 to 13
+  -- 10 to 14
   pub then-barred : (why : Refusal) → sourceJudged i s ≡ Allowed → getD (b .sources) i none ≡ none
-      → barOf (coming pairOf s) (b .receivers) ≡ some why → placeSource i s b ≡ refuse why
+      → barOf (coming (pairIn b) s) (b .receivers) ≡ some why → placeSource i s b ≡ refuse why
   -- the late 1
   pub then-late : sourceJudged i s ≡ Allowed → getD (b .sources) i none ≡ none
-      → barOf (coming pairOf s) (b .receivers) ≡ none → every (coming pairOf s .fits) (present (b .receivers)) ≡ false
+      → barOf (coming (pairIn b) s) (b .receivers) ≡ none → every (coming (pairIn b) s .fits) (present (b .receivers)) ≡ false
       → placeSource i s b ≡ refuse Damaged
 
 pub record ReceiverOrder (j : ℕ) (r : Receiver) (b : Book) : Type 0 where
@@ -44,10 +48,20 @@ pub record ReceiverOrder (j : ℕ) (r : Receiver) (b : Book) : Type 0 where
   pub fields-first : (why : Refusal) → receiverJudged j r ≡ Refused why → placeReceiver j r b ≡ refuse why
   -- 8
   pub then-taken : (a : Held) → receiverJudged j r ≡ Allowed → getD (b .receivers) j none ≡ some a → placeReceiver j r b ≡ refuse Taken
-  -- 10 to 13
+  -- 10 to 14
   pub then-barred : (why : Refusal) → receiverJudged j r ≡ Allowed → getD (b .receivers) j none ≡ none
-      → firstBar (λ (s : Source). pairOf s r) 0 (b .sources) ≡ some why → placeReceiver j r b ≡ refuse why
+      → firstBar (λ (s : Source). pairIn b s r) 0 (b .sources) ≡ some why → placeReceiver j r b ≡ refuse why
+
+pub record WallOrder (k : ℕ) (w : Wall) (b : Book) : Type 0 where
+  -- 5
+  pub fields-first : (why : Refusal) → wallJudged k w ≡ Refused why → placeWall k w b ≡ refuse why
+  -- 8
+  pub then-taken : (a : Wall) → wallJudged k w ≡ Allowed → getD (b .walls) k none ≡ some a → placeWall k w b ≡ refuse Taken
+  -- 10 to 14, of every pair among the walls that would stand
+  pub then-barred : (why : Refusal) → wallJudged k w ≡ Allowed → getD (b .walls) k none ≡ none
+      → barOf (renewing (pairOf (present (set (b .walls) k (some w)))) (present (b .sources))) (b .receivers) ≡ some why → placeWall k w b ≡ refuse why
 
 pub record InOrder : Type 0 where
   pub source : (i : ℕ) (s : Source) (b : Book) → SourceOrder i s b
   pub receiver : (j : ℕ) (r : Receiver) (b : Book) → ReceiverOrder j r b
+  pub wall : (k : ℕ) (w : Wall) (b : Book) → WallOrder k w b

@@ -2,24 +2,28 @@
 // What each answers and leaves is a definition of specs/Calls.antt; the store stays undamaged, so that the next call can follow.
 use answer::Refusal;
 use index::Index;
+use ledger::afresh;
+use ledger::fences;
 use ledger::gather;
 use ledger::round;
 use ledger::round::Stop;
 use road::Receiver;
 use road::Source;
 use road::Verdict;
+use screen::Wall;
 use store::Held;
 ghost use mathlib.Core.Path.{_≡_};
-ghost use mathlib.Core.Bool.{false, cond};
+ghost use mathlib.Core.Bool.{true, false, cond};
 ghost use mathlib.Core.Option.{none, some};
 ghost use Prim.Native.Nat.{_<_};
 ghost use lib.ListN.{set};
 ghost use Rattle.level.specs.Table.{table};
 ghost use Rattle.road.specs.declared.Verdict.the-variants.{Allowed};
-ghost use Rattle.road.specs.Judge.{sourceVerdict, receiverVerdict};
-ghost use Rattle.store.specs.Store.{sourceCount, receiverCount, damaged, bookOf, bookBytes, book};
+ghost use Rattle.road.specs.Judge.{sourceVerdict, receiverVerdict, wallVerdict};
+ghost use Rattle.store.specs.Store.{sourceCount, receiverCount, wallCount, damaged, bookOf, bookBytes, book};
+ghost use Rattle.ledger.specs.Lists.{present};
 ghost use Rattle.ledger.specs.Changes.{changeBy};
-ghost use Rattle.undamaged.specs.Calls.{told, changeSource, enterSource, leaveSource, enterReceiver, leaveReceiver, indicesAt, placeSource, withdrawSource, placeReceiver, withdrawReceiver, askReceiver};
+ghost use Rattle.undamaged.specs.Calls.{told, changeSource, enterSource, leaveSource, enterReceiver, leaveReceiver, changeWall, enterWall, leaveWall, indicesAt, placeSource, withdrawSource, placeReceiver, withdrawReceiver, placeWall, withdrawWall, askReceiver};
 
 // What a call answers: done, the two indices of a receiver (L_DEN, then L_Night), or a refusal.
 pub enum Answer {
@@ -31,10 +35,12 @@ pub enum Answer {
 // A source comes into slot i or goes from it: every receiver is asked first, and only then is anything written.
 fn change_source(steps: &[u32; 1000], store: &mut [u8], i: usize, s: Source, adding: bool) -> Answer
     requires { ⌜ (now steps ≡ table) × (damaged (now store) ≡ false) × (i < sourceCount) × (sourceVerdict s ≡ Allowed) ⌝ }
-    ensures { λ r. ⌜ (r, now (store .exit)) ≡ told (now (store .entry)) (changeSource (changeBy adding s) i (cond adding (some s) none) (bookOf (now (store .entry)))) ⌝ }
+    ensures { λ r. ⌜ (r, now (store .exit)) ≡ told (now (store .entry)) (changeSource (changeBy (present (bookOf (now (store .entry)) .walls)) adding s) i (cond adding (some s) none) (bookOf (now (store .entry)))) ⌝ }
 {
+    let mut numbers = [0u64; fences::NUMBERS];
+    let n = fences::standing(store, &mut numbers);
     let sent = road::emission::send(steps, s);
-    let found = round::go_round(steps, store, s, sent, adding);
+    let found = round::go_round(steps, &numbers[..n], store, s, sent, adding);
     let stop = found.stop;
     match stop {
         Stop::At(why) => Answer::Refused(why),
@@ -53,7 +59,7 @@ fn change_source(steps: &[u32; 1000], store: &mut [u8], i: usize, s: Source, add
 // Writes a source into slot i, or makes the slot free.
 fn write_source(store: &mut [u8], i: usize, s: Source, adding: bool)
     requires { ⌜ (damaged (now store) ≡ false) × (i < sourceCount) × (sourceVerdict s ≡ Allowed) ⌝ }
-    ensures { λ _. ⌜ now (store .exit) ≡ bookBytes (book (set (bookOf (now (store .entry)) .sources) i (cond adding (some s) none)) (bookOf (now (store .entry)) .receivers)) ⌝ }
+    ensures { λ _. ⌜ now (store .exit) ≡ bookBytes (book (set (bookOf (now (store .entry)) .sources) i (cond adding (some s) none)) (bookOf (now (store .entry)) .receivers) (bookOf (now (store .entry)) .walls)) ⌝ }
 {
     if adding {
         store::sources::put_source(store, i, s);
@@ -118,7 +124,9 @@ fn enter_receiver(steps: &[u32; 1000], store: &mut [u8], j: usize, r: Receiver) 
     if seat.used {
         return Answer::Refused(Refusal::Taken);
     }
-    let brought = gather::gather(steps, store, r);
+    let mut numbers = [0u64; fences::NUMBERS];
+    let n = fences::standing(store, &mut numbers);
+    let brought = gather::gather(steps, &numbers[..n], store, r);
     let stop = brought.stop;
     match stop {
         Stop::At(why) => Answer::Refused(why),
@@ -164,6 +172,88 @@ pub fn withdraw_receiver(store: &mut [u8], slot: u16) -> Answer
     match road::judge::judge_slot(store::LAST_RECEIVER, slot, Verdict::Allowed) {
         Verdict::Refused(why) => Answer::Refused(why),
         Verdict::Allowed => leave_receiver(store, slot as usize),
+    }
+}
+
+// A wall comes into slot k or goes from it: every account is worked out afresh first, and only then is anything written.
+fn change_wall(steps: &[u32; 1000], store: &mut [u8], k: usize, w: Wall, adding: bool) -> Answer
+    requires { ⌜ (now steps ≡ table) × (damaged (now store) ≡ false) × (k < wallCount) × (adding ≡ true → wallVerdict w ≡ Allowed) ⌝ }
+    ensures { λ r. ⌜ (r, now (store .exit)) ≡ told (now (store .entry)) (changeWall k (cond adding (some w) none) (bookOf (now (store .entry)))) ⌝ }
+{
+    let mut numbers = [0u64; fences::NUMBERS];
+    let n = fences::changed(store, k, w, adding, &mut numbers);
+    let found = afresh::go_afresh(steps, &numbers[..n], store);
+    let stop = found.stop;
+    match stop {
+        Stop::At(why) => Answer::Refused(why),
+        Stop::Nowhere => {
+            if found.late {
+                return Answer::Refused(Refusal::Damaged);
+            }
+            let seats = found.seats;
+            round::write_seats(store, seats);
+            write_wall(store, k, w, adding);
+            Answer::Done
+        }
+    }
+}
+
+// Writes a wall into slot k, or makes the slot free.
+fn write_wall(store: &mut [u8], k: usize, w: Wall, adding: bool)
+    requires { ⌜ (damaged (now store) ≡ false) × (k < wallCount) × (adding ≡ true → wallVerdict w ≡ Allowed) ⌝ }
+    ensures { λ _. ⌜ now (store .exit) ≡ bookBytes (book (bookOf (now (store .entry)) .sources) (bookOf (now (store .entry)) .receivers) (set (bookOf (now (store .entry)) .walls) k (cond adding (some w) none))) ⌝ }
+{
+    if adding {
+        store::walls::put_wall(store, k, w);
+    } else {
+        store::walls::drop_wall(store, k);
+    }
+}
+
+// Places a wall whose fields and slot are allowed.
+fn enter_wall(steps: &[u32; 1000], store: &mut [u8], k: usize, w: Wall) -> Answer
+    requires { ⌜ (now steps ≡ table) × (damaged (now store) ≡ false) × (k < wallCount) × (wallVerdict w ≡ Allowed) ⌝ }
+    ensures { λ r. ⌜ (r, now (store .exit)) ≡ told (now (store .entry)) (enterWall k w (bookOf (now (store .entry)))) ⌝ }
+{
+    let wall_slot = store::walls::wall_slot(store, k);
+    if wall_slot.used {
+        return Answer::Refused(Refusal::Taken);
+    }
+    change_wall(steps, store, k, w, true)
+}
+
+// Places a wall.
+pub fn place_wall(steps: &[u32; 1000], store: &mut [u8], slot: u16, w: Wall) -> Answer
+    requires { ⌜ (now steps ≡ table) × (damaged (now store) ≡ false) ⌝ }
+    ensures { λ r. ⌜ ((r, now (store .exit)) ≡ told (now (store .entry)) (placeWall slot w (bookOf (now (store .entry))))) × (damaged (now (store .exit)) ≡ false) ⌝ }
+{
+    let fields = road::judge::judge_wall(w);
+    match road::judge::judge_slot(store::LAST_WALL, slot, fields) {
+        Verdict::Refused(why) => Answer::Refused(why),
+        Verdict::Allowed => enter_wall(steps, store, slot as usize, w),
+    }
+}
+
+// Withdraws the wall of a slot that is allowed.
+fn leave_wall(steps: &[u32; 1000], store: &mut [u8], k: usize) -> Answer
+    requires { ⌜ (now steps ≡ table) × (damaged (now store) ≡ false) × (k < wallCount) ⌝ }
+    ensures { λ r. ⌜ (r, now (store .exit)) ≡ told (now (store .entry)) (leaveWall k (bookOf (now (store .entry)))) ⌝ }
+{
+    let wall_slot = store::walls::wall_slot(store, k);
+    if !wall_slot.used {
+        return Answer::Refused(Refusal::Vacant);
+    }
+    change_wall(steps, store, k, wall_slot.wall, false)
+}
+
+// Withdraws a wall.
+pub fn withdraw_wall(steps: &[u32; 1000], store: &mut [u8], slot: u16) -> Answer
+    requires { ⌜ (now steps ≡ table) × (damaged (now store) ≡ false) ⌝ }
+    ensures { λ r. ⌜ ((r, now (store .exit)) ≡ told (now (store .entry)) (withdrawWall slot (bookOf (now (store .entry))))) × (damaged (now (store .exit)) ≡ false) ⌝ }
+{
+    match road::judge::judge_slot(store::LAST_WALL, slot, Verdict::Allowed) {
+        Verdict::Refused(why) => Answer::Refused(why),
+        Verdict::Allowed => leave_wall(steps, store, slot as usize),
     }
 }
 
