@@ -62,11 +62,11 @@ pub const GRADIENT: Field = field(
     &[(0, STEEPEST), (MINUS + 1, MINUS + STEEPEST)],
 );
 pub const REFLECTION: Field = field(10, "reflection", 3, &[(0, 4)]);
-pub const WALLS: Field = field(11, "walls", 2, &[(0, 3)]);
+pub const PARALLEL_WALLS: Field = field(11, "parallel walls", 2, &[(0, 3)]);
 
-/// The sizes of walls, where there are any; where there are none both are 0.
-pub const WALL_HEIGHT: Field = field(12, "wall height", 12, &[(1, 4000)]);
-pub const WALL_SPACING: Field = field(13, "wall spacing", 14, &[(1, 16_383)]);
+/// The sizes of parallel walls, where there are any; where there are none both are 0.
+pub const PARALLEL_HEIGHT: Field = field(12, "height of parallel walls", 12, &[(1, 4000)]);
+pub const PARALLEL_SPACING: Field = field(13, "spacing of parallel walls", 14, &[(1, 16_383)]);
 
 /// Traffic by day; evening and night have the same limits.
 pub const VEHICLES: Field = vehicles(14);
@@ -96,9 +96,9 @@ const ROAD_FIELDS: [Field; 9] = [
     SURFACE,
     GRADIENT,
     REFLECTION,
-    WALLS,
-    WALL_HEIGHT,
-    WALL_SPACING,
+    PARALLEL_WALLS,
+    PARALLEL_HEIGHT,
+    PARALLEL_SPACING,
 ];
 
 /// The traffic of a source, period by period.
@@ -159,9 +159,9 @@ impl Field {
         ranges.any(|&(first, last)| first <= value && value <= last)
     }
 
-    /// Whether the field is a size of walls.
-    pub fn of_walls(&self) -> bool {
-        [WALL_HEIGHT.number, WALL_SPACING.number].contains(&self.number)
+    /// Whether the field is a size of parallel walls.
+    pub fn of_parallel_walls(&self) -> bool {
+        [PARALLEL_HEIGHT.number, PARALLEL_SPACING.number].contains(&self.number)
     }
 
     /// Where the field is in a table that has it.

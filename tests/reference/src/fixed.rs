@@ -7,9 +7,9 @@ use crate::course::Course;
 use crate::cuts::{corner_roads, stretched_roads};
 use crate::daily::Daily;
 use crate::fields::{
-    Field, BETWEEN_COURSE, CAR_SPEED, GRADIENT, LENGTH, MINUS, RECEIVERS, RECEIVER_FIELDS, SOURCES,
-    SOURCE_SLOT, STEEPEST, SURFACE, TRUCKS, TRUCK_SPEED, VEHICLES, WALLS, WALL_HEIGHT,
-    WALL_SPACING,
+    Field, BETWEEN_COURSE, CAR_SPEED, GRADIENT, LENGTH, MINUS, PARALLEL_HEIGHT, PARALLEL_SPACING,
+    PARALLEL_WALLS, RECEIVERS, RECEIVER_FIELDS, SOURCES, SOURCE_SLOT, STEEPEST, SURFACE, TRUCKS,
+    TRUCK_SPEED, VEHICLES,
 };
 use crate::limits::{trial_values, TURNING_SPEEDS};
 use crate::probe::{Frame, LONGEST_IMAGE};
@@ -44,12 +44,12 @@ pub fn example_source() -> Source {
     source
 }
 
-/// The same source between walls, so that every field of it counts.
+/// The same source between parallel walls, so that every field of it counts.
 fn walled_source() -> Source {
     Source {
-        walls: 1,
-        wall_height: 600,
-        wall_spacing: 1200,
+        parallel_walls: 1,
+        parallel_height: 600,
+        parallel_spacing: 1200,
         ..example_source()
     }
 }
@@ -218,7 +218,7 @@ fn loudest_source() -> Source {
         truck_speed: TRUCK_SPEED.most(),
         surface: FAST_SURFACE - 1,
         gradient: STEEPEST,
-        wall_height: WALL_HEIGHT.most(),
+        parallel_height: PARALLEL_HEIGHT.most(),
         ..walled_source()
     };
     source.traffic = [Traffic {
@@ -460,13 +460,13 @@ fn paired_frames() -> Vec<Frame> {
     for source in surfaced_sources() {
         add(&[(CAR_SPEED, source.car_speed), (SURFACE, source.surface)]);
     }
-    for walls in WALLS.least()..=WALLS.most() + 1 {
-        for height in WALL_HEIGHT.edges(WALL_HEIGHT.stored_bits()) {
-            for spacing in WALL_SPACING.edges(WALL_SPACING.stored_bits()) {
+    for parallel_walls in PARALLEL_WALLS.least()..=PARALLEL_WALLS.most() + 1 {
+        for height in PARALLEL_HEIGHT.edges(PARALLEL_HEIGHT.stored_bits()) {
+            for spacing in PARALLEL_SPACING.edges(PARALLEL_SPACING.stored_bits()) {
                 add(&[
-                    (WALLS, walls),
-                    (WALL_HEIGHT, height),
-                    (WALL_SPACING, spacing),
+                    (PARALLEL_WALLS, parallel_walls),
+                    (PARALLEL_HEIGHT, height),
+                    (PARALLEL_SPACING, spacing),
                 ]);
             }
         }

@@ -154,9 +154,9 @@ pub fn loud_road(chance: &mut Chance) -> Source {
         truck_speed: chance.between(60, TRUCK_SPEED.most()),
         surface: FAST_SURFACE - 1,
         gradient: chance.pick(&[STEEPEST, MINUS + STEEPEST]),
-        walls: 1,
-        wall_height: 2000,
-        wall_spacing: 1500,
+        parallel_walls: 1,
+        parallel_height: 2000,
+        parallel_spacing: 1500,
         traffic: [Traffic::default(); 3],
         reflection: REFLECTION.least(),
     }

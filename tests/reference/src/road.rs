@@ -34,9 +34,9 @@ pub struct Source {
     pub surface: i64,
     pub gradient: i64,
     pub reflection: i64,
-    pub walls: i64,
-    pub wall_height: i64,
-    pub wall_spacing: i64,
+    pub parallel_walls: i64,
+    pub parallel_height: i64,
+    pub parallel_spacing: i64,
     pub traffic: [Traffic; 3],
 }
 
@@ -109,9 +109,9 @@ impl Source {
             self.surface,
             self.gradient,
             self.reflection,
-            self.walls,
-            self.wall_height,
-            self.wall_spacing,
+            self.parallel_walls,
+            self.parallel_height,
+            self.parallel_spacing,
             day.vehicles,
             day.trucks,
             evening.vehicles,
@@ -135,9 +135,9 @@ impl Source {
             surface: f[3],
             gradient: f[4],
             reflection: f[5],
-            walls: f[6],
-            wall_height: f[7],
-            wall_spacing: f[8],
+            parallel_walls: f[6],
+            parallel_height: f[7],
+            parallel_spacing: f[8],
             traffic: [period(9), period(11), period(13)],
         }
     }
@@ -163,9 +163,9 @@ impl Source {
         self.truck_speed.clamp(TRUCK_SPEEDS.0, TRUCK_SPEEDS.1)
     }
 
-    /// Whether a field may have a value; without walls their sizes are 0.
+    /// Whether a field may have a value; without parallel walls their sizes are 0.
     pub fn allows(&self, field: &Field, value: i64) -> bool {
-        if self.walls == 0 && field.of_walls() {
+        if self.parallel_walls == 0 && field.of_parallel_walls() {
             value == 0
         } else {
             field.allows(value)
@@ -290,9 +290,9 @@ pub fn gradient_term(code: i64) -> i64 {
 }
 
 /// The addition for parallel walls.
-pub fn wall_term(source: &Source) -> i64 {
-    let (height, spacing) = (source.wall_height, source.wall_spacing);
-    match source.walls {
+pub fn parallel_term(source: &Source) -> i64 {
+    let (height, spacing) = (source.parallel_height, source.parallel_spacing);
+    match source.parallel_walls {
         1 => (400 * height).div_euclid(spacing).min(320),
         2 => (200 * height).div_euclid(spacing).min(160),
         _ => 0,
@@ -351,7 +351,7 @@ pub fn emission(source: &Source) -> PeriodLevels {
         + gradient_term(source.gradient)
         + REFLECTIONS[source.reflection as usize]
         + length
-        + wall_term(source);
+        + parallel_term(source);
     source.traffic.map(|traffic| {
         let l25 = traffic_term(traffic, source.several_lanes == 1)?;
         Some(l25 + speed_term(car, excess, traffic.trucks) + fixed)

@@ -6,8 +6,8 @@ use crate::chance::Chance;
 use crate::course::Course;
 use crate::cuts::stretched_roads;
 use crate::fields::{
-    Field, CAR_SPEED, FARTHEST, HEIGHT, LENGTH, RECEIVERS, RECEIVER_FIELDS, RECEIVER_SLOT,
-    REFLECTION, SOURCES, SOURCE_SLOT, SURFACE, WALLS, WALL_HEIGHT, WALL_SPACING,
+    Field, CAR_SPEED, FARTHEST, HEIGHT, LENGTH, PARALLEL_HEIGHT, PARALLEL_SPACING, PARALLEL_WALLS,
+    RECEIVERS, RECEIVER_FIELDS, RECEIVER_SLOT, REFLECTION, SOURCES, SOURCE_SLOT, SURFACE,
 };
 use crate::fixed::sum_edges;
 use crate::inconsistent::{
@@ -229,9 +229,9 @@ fn past_an_edge(chance: &mut Chance, mut place: Record) -> Record {
     let breakable = |field: &&Field| !field.outer_edges(field.bits).is_empty();
     let fields: Vec<&Field> = place.fields()[1..].iter().filter(breakable).collect();
     let field = chance.pick(&fields);
-    if field.of_walls() {
-        for walls in [WALLS, WALL_HEIGHT, WALL_SPACING] {
-            place = place.with(&walls, walls.most());
+    if field.of_parallel_walls() {
+        for parallel_walls in [PARALLEL_WALLS, PARALLEL_HEIGHT, PARALLEL_SPACING] {
+            place = place.with(&parallel_walls, parallel_walls.most());
         }
     }
     place.with(field, chance.pick(&field.outer_edges(field.bits)))
@@ -334,8 +334,11 @@ fn source_field(chance: &mut Chance) -> Frame {
             );
         }
         1 => {
-            set(&WALLS, chance.between(0, WALLS.most() + 1));
-            for size in [WALL_HEIGHT, WALL_SPACING] {
+            set(
+                &PARALLEL_WALLS,
+                chance.between(0, PARALLEL_WALLS.most() + 1),
+            );
+            for size in [PARALLEL_HEIGHT, PARALLEL_SPACING] {
                 set(&size, chance.pick(&size.edges(size.stored_bits())));
             }
         }

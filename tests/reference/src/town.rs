@@ -7,9 +7,9 @@ use crate::course::{Course, Point};
 use crate::cuts::{span, spanned, within};
 use crate::daily::Daily;
 use crate::fields::{
-    Field, CAR_SPEED, CLASS, DTV, FARTHEST, HEIGHT, LANES, LENGTH, MINUS, RECEIVERS, RECEIVER_SLOT,
-    REFLECTION, SOURCES, STEEPEST, SURFACE, TRUCKS, TRUCK_SPEED, VEHICLES, WALLS, WALL_HEIGHT,
-    WALL_SPACING,
+    Field, CAR_SPEED, CLASS, DTV, FARTHEST, HEIGHT, LANES, LENGTH, MINUS, PARALLEL_HEIGHT,
+    PARALLEL_SPACING, PARALLEL_WALLS, RECEIVERS, RECEIVER_SLOT, REFLECTION, SOURCES, STEEPEST,
+    SURFACE, TRUCKS, TRUCK_SPEED, VEHICLES,
 };
 use crate::limits::TURNING_SPEEDS;
 use crate::record::Record;
@@ -159,11 +159,14 @@ pub fn traffic(chance: &mut Chance) -> Traffic {
     Traffic { vehicles, trucks }
 }
 
-fn walls(chance: &mut Chance) -> (i64, i64, i64) {
-    let kind = chance.within(&WALLS);
+fn parallel_walls(chance: &mut Chance) -> (i64, i64, i64) {
+    let kind = chance.within(&PARALLEL_WALLS);
     let sizes = match (kind, chance.between(0, 3)) {
         (0, _) => (0, 0),
-        (_, 0) => (chance.edge_in(&WALL_HEIGHT), chance.edge_in(&WALL_SPACING)),
+        (_, 0) => (
+            chance.edge_in(&PARALLEL_HEIGHT),
+            chance.edge_in(&PARALLEL_SPACING),
+        ),
         _ => (chance.between(1, 1500), chance.between(800, 4000)),
     };
     (kind, sizes.0, sizes.1)
@@ -172,7 +175,7 @@ fn walls(chance: &mut Chance) -> (i64, i64, i64) {
 /// An allowed road at no place in particular.
 pub fn road(chance: &mut Chance) -> Source {
     let car_speed = speed(chance, &CAR_SPEED);
-    let (walls, wall_height, wall_spacing) = walls(chance);
+    let (parallel_walls, parallel_height, parallel_spacing) = parallel_walls(chance);
     Source {
         course: Course::uncut(0, 0, chance.magnitude(6000)),
         several_lanes: chance.within(&LANES),
@@ -181,9 +184,9 @@ pub fn road(chance: &mut Chance) -> Source {
         surface: chance.between(SURFACE.least(), surfaces_at(car_speed)),
         gradient: gradient(chance),
         reflection: chance.within(&REFLECTION),
-        walls,
-        wall_height,
-        wall_spacing,
+        parallel_walls,
+        parallel_height,
+        parallel_spacing,
         traffic: std::array::from_fn(|_| traffic(chance)),
     }
 }

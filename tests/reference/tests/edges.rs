@@ -52,9 +52,9 @@ fn edges_of(field: &Field, bits: u32) -> Vec<(i64, bool)> {
     edges
 }
 
-/// The edges of a size of walls where there are none: 0 is to be accepted and 1 to be refused.
-fn edges_without_walls(field: &Field) -> Vec<(i64, bool)> {
-    if field.of_walls() {
+/// The edges of a size of parallel walls where there are none: 0 is to be accepted and 1 to be refused.
+fn edges_without_parallel_walls(field: &Field) -> Vec<(i64, bool)> {
+    if field.of_parallel_walls() {
         vec![(0, true), (1, false)]
     } else {
         Vec::new()
@@ -113,7 +113,7 @@ impl Missed {
                     &LENGTH if kind == BETWEEN => edges_of_length(),
                     _ => edges_of(field, bits(field)),
                 };
-                of_field.extend(edges_without_walls(field));
+                of_field.extend(edges_without_parallel_walls(field));
                 let named = |(value, good)| (kind, at, value, good);
                 edges.extend(of_field.into_iter().map(named));
             }

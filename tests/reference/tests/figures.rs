@@ -11,8 +11,8 @@ use reference::limits::uncut_levels;
 use reference::listing::list;
 use reference::record::{length_of, listed_kinds, read, write, Record};
 use reference::road::{
-    car_level, distance_term, gradient_term, ground_term, root, speed_term, traffic_term,
-    truck_excess, truck_level, wall_term, Receiver, Refusal, Source, Traffic, GREATEST_SHARE,
+    car_level, distance_term, gradient_term, ground_term, parallel_term, root, speed_term,
+    traffic_term, truck_excess, truck_level, Receiver, Refusal, Source, Traffic, GREATEST_SHARE,
     LOUDEST,
 };
 use reference::store::{
@@ -31,11 +31,11 @@ fn speeds(car_speed: i64, truck_speed: i64) -> Source {
     }
 }
 
-fn walled(walls: i64, wall_height: i64, wall_spacing: i64) -> Source {
+fn walled(parallel_walls: i64, parallel_height: i64, parallel_spacing: i64) -> Source {
     Source {
-        walls,
-        wall_height,
-        wall_spacing,
+        parallel_walls,
+        parallel_height,
+        parallel_spacing,
         ..example_source()
     }
 }
@@ -111,13 +111,13 @@ fn levels_of_traffic() {
 }
 
 #[test]
-fn gradients_and_walls() {
+fn gradients_and_parallel_walls() {
     assert_eq!([50, 51, 120].map(gradient_term), [0, 6, 420]);
     assert_eq!([178, 179, 248].map(gradient_term), [0, 6, 420]);
-    assert_eq!(wall_term(&walled(1, 600, 1200)), 200);
-    assert_eq!(wall_term(&walled(1, 1200, 1200)), 320);
-    assert_eq!(wall_term(&walled(2, 1200, 1200)), 160);
-    assert_eq!(wall_term(&walled(3, 1200, 1200)), 0);
+    assert_eq!(parallel_term(&walled(1, 600, 1200)), 200);
+    assert_eq!(parallel_term(&walled(1, 1200, 1200)), 320);
+    assert_eq!(parallel_term(&walled(2, 1200, 1200)), 160);
+    assert_eq!(parallel_term(&walled(3, 1200, 1200)), 0);
 }
 
 #[test]
@@ -304,18 +304,18 @@ fn limits_are_those_on_paper() {
 }
 
 #[test]
-fn walls_and_their_sizes_hang_together() {
-    let place = |walls, height, spacing| {
-        let outcome = Book::cleared().place_source(0, &walled(walls, height, spacing));
+fn parallel_walls_and_their_sizes_hang_together() {
+    let place = |parallel_walls, height, spacing| {
+        let outcome = Book::cleared().place_source(0, &walled(parallel_walls, height, spacing));
         outcome.err().map(|refusal| (refusal.number, refusal.place))
     };
     assert_eq!(place(0, 0, 0), None);
     assert_eq!(place(0, 1, 0), Some((5, 12)));
     assert_eq!(place(0, 0, 1), Some((5, 13)));
-    for walls in 1..=3 {
-        assert_eq!(place(walls, 0, 0), Some((5, 12)));
-        assert_eq!(place(walls, 1, 0), Some((5, 13)));
-        assert_eq!(place(walls, 1, 1), None);
+    for parallel_walls in 1..=3 {
+        assert_eq!(place(parallel_walls, 0, 0), Some((5, 12)));
+        assert_eq!(place(parallel_walls, 1, 0), Some((5, 13)));
+        assert_eq!(place(parallel_walls, 1, 1), None);
     }
 }
 

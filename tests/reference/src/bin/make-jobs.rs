@@ -56,7 +56,7 @@ fn traffic(chance: &mut Chance) -> [Traffic; 3] {
 fn road(chance: &mut Chance, x: i64, y: i64) -> Source {
     let (car_speed, truck_speed) =
         chance.pick(&[(30, 30), (50, 50), (70, 60), (100, 80), (130, 80)]);
-    let walls = chance.pick(&[0, 0, 0, 0, 1, 2]);
+    let parallel_walls = chance.pick(&[0, 0, 0, 0, 1, 2]);
     Source {
         course: Course::uncut(x, y, chance.between(300, 2000)),
         several_lanes: chance.within(&LANES),
@@ -65,9 +65,9 @@ fn road(chance: &mut Chance, x: i64, y: i64) -> Source {
         surface: chance.between(SURFACE.least(), surfaces_at(car_speed)),
         gradient: chance.between(1, 80) + chance.pick(&[0, MINUS]),
         reflection: chance.pick(&[0, 0, 0, 1, 2]),
-        walls,
-        wall_height: if walls == 0 { 0 } else { 600 },
-        wall_spacing: if walls == 0 { 0 } else { 2200 },
+        parallel_walls,
+        parallel_height: if parallel_walls == 0 { 0 } else { 600 },
+        parallel_spacing: if parallel_walls == 0 { 0 } else { 2200 },
         traffic: traffic(chance),
     }
 }
