@@ -25,7 +25,7 @@ use crate::town::{placing, road, traffic, Town, WIDE};
 
 /// What a source brings to a receiver; nothing where the pair is refused.
 fn heard_of(source: &Source, receiver: &Receiver) -> [i64; 3] {
-    shares(source, &emission(source), receiver).unwrap_or([0; 3])
+    shares(source, &emission(source), receiver, &[]).unwrap_or([0; 3])
 }
 
 /// Sums that leave room for a share more and a share less.

@@ -27,4 +27,5 @@ pub mod sheets;
 pub mod store;
 pub mod stores;
 pub mod town;
+pub mod wall;
 pub mod writing;

@@ -4,6 +4,7 @@
 use crate::course::{cut, Course, Piece, Point};
 use crate::fields::{Field, COMMON_FIELDS, LENGTH, MINUS, RECEIVER_FIELDS};
 use crate::level::{energy, lv, FAINTEST, STEPS};
+use crate::wall::{screening, Wall, CROWDED};
 
 /// A number for the caller, with the field or slot it speaks of (0 where there is none).
 #[derive(Clone, Copy, Debug, PartialEq, Eq)]
@@ -11,6 +12,9 @@ pub struct Refusal {
     pub number: u8,
     pub place: u16,
 }
+
+/// The numbers that there are, 0 for what is done among them.
+pub const NUMBERS: usize = 15;
 
 /// A refusal that names no field and no slot.
 pub const fn refusal(number: u8) -> Refusal {
@@ -179,13 +183,20 @@ impl Receiver {
         [self.x, self.y, self.height]
     }
 
+    /// Its place on the map.
+    pub fn place(&self) -> Point {
+        let (x, y) = (self.x, self.y);
+        Point { x, y }
+    }
+
     /// A receiver from its fields 2 to 4.
     pub fn of_fields([x, y, height]: [i64; 3]) -> Receiver {
         Receiver { x, y, height }
     }
 }
 
-fn wrong_field(place: u16) -> Refusal {
+/// The refusal of a field that is not allowed.
+pub const fn wrong_field(place: u16) -> Refusal {
     Refusal { number: 5, place }
 }
 
@@ -369,11 +380,17 @@ fn judge_distance(piece: &Piece) -> Result<(), u8> {
     Ok(())
 }
 
-/// What is left at a receiver of the levels that a piece sends out, for the three periods.
-pub fn heard(sent: &PeriodLevels, piece: &Piece, receiver: &Receiver) -> PeriodLevels {
+/// What is left at a receiver of the levels that a piece sends out, for the three periods. Ground
+/// and wall do not both take of it, but the one that takes more.
+pub fn heard(
+    sent: &PeriodLevels,
+    piece: &Piece,
+    receiver: &Receiver,
+    screened: i64,
+) -> PeriodLevels {
     let heights = receiver.height + SOURCE_HEIGHT;
     let far = root(piece.in_space);
-    let lost = distance_term(piece.in_space, far) + ground_term(heights, far);
+    let lost = distance_term(piece.in_space, far) + ground_term(heights, far).max(screened);
     let map_way = root(piece.on_map);
     std::array::from_fn(|period| {
         let weather = weather_term(WEATHER[period], heights, map_way);
@@ -391,49 +408,75 @@ fn share(level: Option<i64>) -> i64 {
     }
 }
 
-/// What an uncut source brings to a receiver, however loud; or refusal 10, 11 or 12.
-fn whole(sent: &PeriodLevels, piece: &Piece, receiver: &Receiver) -> Result<Shares, u8> {
+/// What an uncut source brings to a receiver, however loud; or refusal 10, 11, 12 or 14.
+fn whole(
+    sent: &PeriodLevels,
+    piece: &Piece,
+    receiver: &Receiver,
+    walls: &[Wall],
+) -> Result<Shares, u8> {
     judge_distance(piece)?;
     if piece.is_long() {
         return Err(12);
     }
-    Ok(heard(sent, piece, receiver).map(share))
+    let screened = screening(piece, receiver, walls)?;
+    Ok(heard(sent, piece, receiver, screened).map(share))
 }
 
 /// What the pieces between two ends bring to a receiver, however loud; or refusal 10 or 11 of the
-/// first piece that has one.
+/// first piece that has one; or 14 where no piece has these and one has more than one wall.
 fn summed(
     sent: &PeriodLevels,
-    first: Point,
-    second: Point,
+    (first, second): (Point, Point),
     receiver: &Receiver,
+    walls: &[Wall],
 ) -> Result<Shares, u8> {
     let mut sums = [0; 3];
+    let mut crowded = false;
     cut(first, second, receiver, &mut |piece| {
         judge_distance(piece)?;
+        let Ok(screened) = screening(piece, receiver, walls) else {
+            crowded = true;
+            return Ok(());
+        };
         let length = length_term(piece.length);
-        let levels = heard(sent, piece, receiver);
+        let levels = heard(sent, piece, receiver, screened);
         for (sum, level) in sums.iter_mut().zip(levels) {
             *sum += share(level.map(|level| level + length));
         }
         Ok(())
     })?;
+    if crowded {
+        return Err(CROWDED);
+    }
     Ok(sums)
 }
 
-/// What a source brings to a receiver, however loud, or refusal 10, 11 or 12 of the pair.
-pub fn brought(source: &Source, sent: &PeriodLevels, receiver: &Receiver) -> Result<Shares, u8> {
+/// What a source brings to a receiver past the walls, however loud, or refusal 10, 11, 12 or 14 of
+/// the pair.
+pub fn brought(
+    source: &Source,
+    sent: &PeriodLevels,
+    receiver: &Receiver,
+    walls: &[Wall],
+) -> Result<Shares, u8> {
     match source.course {
         Course::Uncut { middle, length } => {
-            whole(sent, &Piece::new(middle, length, receiver), receiver)
+            let piece = Piece::new(middle, length, receiver);
+            whole(sent, &piece, receiver, walls)
         }
-        Course::Between { first, second } => summed(sent, first, second, receiver),
+        Course::Between { first, second } => summed(sent, (first, second), receiver, walls),
     }
 }
 
-/// What a source brings to a receiver, or the refusal of the pair, 10 to 13.
-pub fn shares(source: &Source, sent: &PeriodLevels, receiver: &Receiver) -> Result<Shares, u8> {
-    let shares = brought(source, sent, receiver)?;
+/// What a source brings to a receiver past the walls, or the refusal of the pair, 10 to 14.
+pub fn shares(
+    source: &Source,
+    sent: &PeriodLevels,
+    receiver: &Receiver,
+    walls: &[Wall],
+) -> Result<Shares, u8> {
+    let shares = brought(source, sent, receiver, walls)?;
     if shares.iter().any(|&share| share > GREATEST_SHARE) {
         return Err(13);
     }

@@ -10,7 +10,7 @@ use reference::limits::{FAR_STEPS, NEAR_STEPS};
 use reference::record::{extent, kind_in, read, take, Record};
 use reference::road::{
     emission, heard, length_term, Receiver, Refusal, Source, FARTHEST_SQUARE, GREATEST_SHARE,
-    LOUDEST, NEAREST_SQUARE,
+    LOUDEST, NEAREST_SQUARE, NUMBERS,
 };
 use reference::store::{receiver_at, take_source, SOURCE_BYTES, SOURCE_SIZE, STORE_SIZE};
 use reference::stores::frame;
@@ -43,7 +43,7 @@ fn done(job: &[u8], book: &mut Book) -> Answer {
 
 #[test]
 fn jobs_meet_every_refusal_of_such_a_road() {
-    let (mut counts, mut of_length, mut placed) = ([0; 14], [0; 2], 0);
+    let (mut counts, mut of_length, mut placed) = ([0; NUMBERS], [0; 2], 0);
     for job in SEEDS.map(job).chain(fixed_jobs()) {
         walk(&job, |record, book| {
             let answer = done(record, book);
@@ -107,7 +107,7 @@ fn levels(source: &Source, found: &[Piece], receiver: &Receiver, period: usize) 
     let sent = emission(source);
     let found = found.iter().filter(|piece| !is_far(piece));
     let level = |piece: &Piece| {
-        let level = heard(&sent, piece, receiver)[period]?;
+        let level = heard(&sent, piece, receiver, 0)[period]?;
         Some(level + length_term(piece.length))
     };
     found.filter_map(level).collect()
@@ -352,7 +352,7 @@ fn probes_meet_every_way_to_tell_a_course() {
 #[test]
 fn writings_of_such_a_road_meet_every_refusal_of_the_writer() {
     let mut places = [0; 20];
-    let mut numbers = [0; 14];
+    let mut numbers = [0; NUMBERS];
     let mut short_by_one = 0;
     for writing in (1..=4000).map(writing).chain(fixed_writings()) {
         if writing.record.kind() != BETWEEN {

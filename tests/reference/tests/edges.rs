@@ -12,7 +12,8 @@ use reference::probe::Frame;
 use reference::record::{extent, fields_of, listed_kinds, take, Record};
 use reference::road::{Receiver, Refusal, Source, FARTHEST_SQUARE, LOUDEST, NEAREST_SQUARE};
 use reference::store::{
-    receiver_at, take_source, unpack, RECEIVER_BYTES, RECEIVER_SIZE, SOURCE_SIZE, STORE_SIZE, SUMS,
+    receiver_at, take_source, unpack, wall_at, RECEIVER_BYTES, RECEIVER_SIZE, SOURCE_SIZE,
+    STORE_SIZE, SUMS,
 };
 use reference::stores::frame;
 use reference::writing::{bits_of, fixed_writings, writing};
@@ -180,7 +181,7 @@ fn sources_in(image: &[u8]) -> impl Iterator<Item = Record> + '_ {
 
 /// The receivers in a stored state, whether allowed or not, with their sums.
 fn accounts_in(image: &[u8]) -> impl Iterator<Item = (Record, Vec<u64>)> + '_ {
-    let slots = image[receiver_at(0)..].chunks_exact(RECEIVER_SIZE);
+    let slots = image[receiver_at(0)..wall_at(0)].chunks_exact(RECEIVER_SIZE);
     let used = (0..).zip(slots).filter(|(_, slot)| slot[0] == 1);
     used.map(|(number, slot)| {
         let values = unpack(slot, &RECEIVER_BYTES);
