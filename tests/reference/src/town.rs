@@ -9,18 +9,22 @@ use crate::daily::Daily;
 use crate::fields::{
     Field, CAR_SPEED, CLASS, DTV, FARTHEST, HEIGHT, LANES, LENGTH, MINUS, PARALLEL_HEIGHT,
     PARALLEL_SPACING, PARALLEL_WALLS, RECEIVERS, RECEIVER_SLOT, REFLECTION, SOURCES, STEEPEST,
-    SURFACE, TRUCKS, TRUCK_SPEED, VEHICLES,
+    SURFACE, TRUCKS, TRUCK_SPEED, VEHICLES, WALLS, WALL_HEIGHT,
 };
 use crate::limits::TURNING_SPEEDS;
 use crate::record::Record;
 use crate::road::{
     Receiver, Source, Traffic, FARTHEST_SQUARE, FAST_ABOVE, FAST_SURFACE, FLAT, SOURCE_HEIGHT,
 };
+use crate::wall::Wall;
 
 /// The width of a town in which no two points are too far apart.
 pub const WIDE: i64 = 140_000;
 const RISE: i64 = HEIGHT.most() - SOURCE_HEIGHT;
 const _: () = assert!(2 * WIDE * WIDE + RISE * RISE <= FARTHEST_SQUARE);
+
+/// Slots of walls that a town mostly uses.
+const FEW_WALLS: usize = 4;
 
 /// The greatest surface of a road for cars of this speed.
 pub const fn surfaces_at(car_speed: i64) -> i64 {
@@ -94,8 +98,37 @@ impl Town {
         placing(chance, slot, source)
     }
 
+    /// A wall in this town.
+    pub fn wall(&self, chance: &mut Chance) -> Wall {
+        let (x, y) = self.spot(chance);
+        let length = chance.magnitude(self.width);
+        let (dx, dy) = span(chance, length);
+        let u = within(x, dx, (self.x, self.x + self.width));
+        let v = within(y, dy, (self.y, self.y + self.width));
+        let most = chance.pick(&[600, WALL_HEIGHT.most()]);
+        Wall::new(x, y, u, v, chance.edge(WALL_HEIGHT.least(), most))
+    }
+
+    /// A record that places or withdraws a wall, mostly on one of a few slots.
+    pub fn wall_record(&self, chance: &mut Chance) -> Record {
+        let slot = slot(chance, FEW_WALLS, WALLS);
+        match chance.between(0, 2) {
+            0 => Record::WithdrawWall(slot),
+            _ => Record::PlaceWall(slot, self.wall(chance)),
+        }
+    }
+
     /// A record of any kind, on slots below the given counts.
     pub fn record(&self, chance: &mut Chance, sources: usize, receivers: usize) -> Record {
+        if chance.one_in(12) {
+            self.wall_record(chance)
+        } else {
+            self.road_record(chance, sources, receivers)
+        }
+    }
+
+    /// The same without walls, on which a book with many slots in use works long.
+    pub fn road_record(&self, chance: &mut Chance, sources: usize, receivers: usize) -> Record {
         let source_slot = slot(chance, sources, SOURCES);
         let receiver_slot = slot(chance, receivers, RECEIVERS);
         match chance.between(0, 19) {

@@ -159,8 +159,9 @@ pub fn writing(seed: u64) -> Writing {
     let chance = &mut Chance::new(seed);
     let town = Town::anywhere(chance);
     let slot = chance.within(&SOURCE_SLOT);
-    let mut record = match chance.between(0, 1) {
-        0 => town.placing(chance, slot),
+    let mut record = match chance.between(0, 4) {
+        0 | 1 => town.placing(chance, slot),
+        2 => town.wall_record(chance),
         _ => town.record(chance, SOURCES, RECEIVERS),
     };
     for _ in 0..chance.pick(&[0, 0, 1, 1, 2]) {
@@ -174,13 +175,18 @@ pub fn writing(seed: u64) -> Writing {
 }
 
 /// The same record with its slot or a field at a limit, beyond it, or beyond what a record holds;
-/// or with other ends, at the corners of the map or just as far apart as they may be.
+/// or with other ends, at the corners of the map or just as far apart as they may be; or, of a wall,
+/// with both at one place.
 fn changed(chance: &mut Chance, record: Record) -> Record {
     if let (7, Record::PlaceSource(slot, source), true) = (record.kind(), record, chance.one_in(4))
     {
         let mut roads = stretched_roads(chance, source);
         roads.extend(corner_roads(chance, source));
         return Record::PlaceSource(slot, chance.pick(&roads));
+    }
+    if let (Record::PlaceWall(slot, mut wall), true) = (record, chance.one_in(4)) {
+        wall.second = wall.first;
+        return Record::PlaceWall(slot, wall);
     }
     let at = chance.index(record.fields().len());
     let field = &record.fields()[at];

@@ -12,8 +12,8 @@ use reference::probe::Frame;
 use reference::record::{extent, fields_of, listed_kinds, take, Record};
 use reference::road::{Receiver, Refusal, Source, FARTHEST_SQUARE, LOUDEST, NEAREST_SQUARE};
 use reference::store::{
-    receiver_at, take_source, unpack, wall_at, RECEIVER_BYTES, RECEIVER_SIZE, SOURCE_SIZE,
-    STORE_SIZE, SUMS,
+    receiver_at, take_source, take_wall, unpack, wall_at, RECEIVER_BYTES, RECEIVER_SIZE,
+    SOURCE_SIZE, STORE_SIZE, SUMS, WALL_SIZE,
 };
 use reference::stores::frame;
 use reference::writing::{bits_of, fixed_writings, writing};
@@ -24,7 +24,7 @@ use std::ops::RangeInclusive;
 const SEEDS: RangeInclusive<u64> = 1..=2000;
 
 /// The kinds of records that place what has fields in the store.
-const PLACINGS: [u8; 3] = [1, 3, 7];
+const PLACINGS: [u8; 4] = [1, 3, 7, 8];
 
 /// The kind of record that has a length which follows from others of its fields.
 const BETWEEN: u8 = 7;
@@ -157,6 +157,7 @@ impl Missed {
         if image.len() == STORE_SIZE {
             sources_in(image).for_each(|record| self.meet(&record));
             accounts_in(image).for_each(|(record, _)| self.meet(&record));
+            walls_in(image).for_each(|record| self.meet(&record));
         }
     }
 
@@ -177,6 +178,13 @@ fn sources_in(image: &[u8]) -> impl Iterator<Item = Record> + '_ {
     let slots = image[..receiver_at(0)].chunks_exact(SOURCE_SIZE);
     let used = (0..).zip(slots).filter(|(_, slot)| slot[0] == 1);
     used.filter_map(|(number, slot)| Some(Record::PlaceSource(number, take_source(slot)?)))
+}
+
+/// The walls in a stored state, whether allowed or not.
+fn walls_in(image: &[u8]) -> impl Iterator<Item = Record> + '_ {
+    let slots = image[wall_at(0)..].chunks_exact(WALL_SIZE);
+    let used = (0..).zip(slots).filter(|(_, slot)| slot[0] == 1);
+    used.map(|(number, slot)| Record::PlaceWall(number, take_wall(slot)))
 }
 
 /// The receivers in a stored state, whether allowed or not, with their sums.

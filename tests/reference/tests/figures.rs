@@ -16,8 +16,8 @@ use reference::road::{
     LOUDEST,
 };
 use reference::store::{
-    field_at, receiver_at, source_at, source_index, RECEIVER_BYTES, RECEIVER_SIZE, SOURCE_BYTES,
-    SOURCE_SIZE, STORE_SIZE, SUMS,
+    field_at, receiver_at, source_at, source_index, wall_at, RECEIVER_BYTES, RECEIVER_SIZE,
+    SOURCE_BYTES, SOURCE_SIZE, STORE_SIZE, SUMS, WALL_SIZE,
 };
 
 /// The last slot of a source.
@@ -192,7 +192,7 @@ fn quiet_and_faint_levels_in_the_listing() {
     let mut job = Record::PlaceReceiver(5, example_receiver()).bytes();
     job.extend(Record::PlaceSource(0, source).bytes());
     job.extend(Record::Ask(5).bytes());
-    job.push(0x80);
+    job.push(0xa0);
     let mut listing = Vec::new();
     list(&job, &mut listing);
     assert_eq!(listing, b"3 R05 --.- --.-\n4 E03\nEND 4\n");
@@ -203,7 +203,7 @@ fn the_reader_says_the_lowest_number() {
     let number = |bytes: &[u8]| read(bytes).map_err(|refusal| (refusal.number, refusal.place));
     assert_eq!(number(&[]), Err((2, 0)));
     assert_eq!(number(&[0x11]), Err((2, 0)));
-    assert_eq!(number(&[0x81]), Err((3, 0)));
+    assert_eq!(number(&[0xa1]), Err((3, 0)));
     assert_eq!(number(&[0x51, 0x41]), Err((4, 0)));
     let low = Receiver {
         height: HEIGHT.least() - 1,
@@ -333,9 +333,10 @@ fn slots_stand_before_the_other_fields() {
 #[test]
 fn sizes_come_out_as_on_paper() {
     let lengths: Vec<_> = listed_kinds().into_iter().map(length_of).collect();
-    assert_eq!(lengths, [9, 2, 30, 2, 2, 20, 34].map(Some));
-    assert_eq!((SOURCE_SIZE, RECEIVER_SIZE), (40, 33));
-    assert_eq!((receiver_at(0), STORE_SIZE), (20_480, 22_592));
+    assert_eq!(lengths, [9, 2, 30, 2, 2, 20, 34, 15, 2].map(Some));
+    assert_eq!((SOURCE_SIZE, RECEIVER_SIZE, WALL_SIZE), (40, 33, 15));
+    assert_eq!((receiver_at(0), wall_at(0)), (20_480, 22_592));
+    assert_eq!(STORE_SIZE, 23_552);
     assert_eq!(TOP, 512 * 10i64.pow(15));
     assert_eq!(energy(LOUDEST), GREATEST_SHARE);
 }
