@@ -355,7 +355,7 @@ fn jobs_meet_every_manner_in_which_walls_lie_to_a_way() {
             done(record, book)
         });
     }
-    met.check(10);
+    met.check(5);
 }
 
 #[test]
