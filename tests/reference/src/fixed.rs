@@ -100,6 +100,20 @@ pub fn example() -> Vec<u8> {
     ])
 }
 
+/// The same job with a wall halfway that comes and goes, and a second one that cannot come.
+pub fn walled_example() -> Vec<u8> {
+    let second = Wall::new(101_000, 99_000, 101_000, 101_000, 1);
+    let walls = bytes_of(&[
+        Record::PlaceWall(0, HALFWAY_WALL),
+        Record::Ask(5),
+        Record::PlaceWall(1, second),
+        Record::WithdrawWall(0),
+        Record::Ask(5),
+        Record::WithdrawWall(0),
+    ]);
+    [example(), walls].concat()
+}
+
 /// One record of each kind, all fit for the worked case.
 pub(crate) fn one_of_each() -> [Record; 9] {
     let [place_source, place_daily, place_between] = every_way(example_source());
@@ -410,6 +424,7 @@ pub fn fixed_jobs() -> Vec<Vec<u8>> {
     let mut jobs = vec![
         Vec::new(),
         example(),
+        walled_example(),
         parade(&trial_records(|field| field.bits)),
         parade(&surfaced_records()),
         parade(&worked_records()),

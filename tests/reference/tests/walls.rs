@@ -4,8 +4,9 @@
 use reference::book::{apply_stored, decode, encode, Account, Answer, Book, TOP};
 use reference::course::{Course, Piece, Point};
 use reference::fields::{FIRST_X, FIRST_Y, WALL_HEIGHT, WALL_SECOND_X, WALL_SECOND_Y, WALL_SLOT};
-use reference::fixed::{example_receiver, example_source};
+use reference::fixed::{example_receiver, example_source, walled_example};
 use reference::level::energy;
+use reference::listing::list;
 use reference::record::{read, write, Record};
 use reference::road::{Receiver, Refusal, Source, Traffic};
 use reference::store::wall_at;
@@ -589,4 +590,28 @@ fn a_share_is_taken_off_as_the_walls_make_it() {
     open.walls[0] = None;
     assert_eq!(open.withdraw_source(7), Err(refused(1, 0)));
     assert_eq!(book.withdraw_source(7), Ok(()));
+}
+
+#[test]
+fn the_worked_case_with_a_wall_has_its_listing() {
+    // at 25 m and halfway: s0 25000, s 25243, a and b 12500, hD 2250, lift 78 (156250000 * 25243 /
+    // 50000000000 = 78.8); A 12980 (up 3500), B 12500, A' 12632 (up 1828), B' 12611 (down 1672)
+    let screen = screen(2500, 101_250, 400);
+    assert_eq!((screen.s0, screen.s, screen.a), (25_000, 25_243, 12_500));
+    assert_eq!((screen.straight(), screen.lift()), (2250, 78));
+    // z = 25480 - 25243, lv(17220) = 4236; the ground takes nothing there
+    assert_eq!((screen.detour(), screen.taken()), (237, 1236));
+    // shares 4792, 4792, 3792; L_DEN is the level of (5 E(4792) + E(5292)) / 6, 4925
+    let mut listing = Vec::new();
+    list(&walled_example(), &mut listing);
+    let lines = [
+        "3 R05 61.6 50.3",
+        "4 E09",
+        "6 R05 49.3 37.9",
+        "7 E14",
+        "9 R05 61.6 50.3",
+        "10 E09",
+        "END 10\n",
+    ];
+    assert_eq!(String::from_utf8(listing).unwrap(), lines.join("\n"));
 }
