@@ -6,9 +6,9 @@ use crate::course::{pieces, Course, Piece, Point};
 use crate::cuts::{pair, span, spanned, within};
 use crate::fields::{FARTHEST, HEIGHT, LENGTH, WALL_HEIGHT};
 use crate::limits::{loud_road, tuned, way_of_square, Way, APART};
-use crate::road::{root, Receiver, Source, LOUDEST};
+use crate::road::{root, Receiver, Source, LOUDEST, SOURCE_HEIGHT};
 use crate::town::{road, traffic, WIDE};
-use crate::wall::{Screen, Wall, LEAST_DETOUR, SHORT_RAY};
+use crate::wall::{Screen, Wall, LEAST_DETOUR, LONG_BEND, SHORT_BEND, SHORT_RAY};
 
 /// The way from the middle of a piece to a receiver, on the map.
 #[derive(Clone, Copy, Debug)]
@@ -292,6 +292,68 @@ pub fn screened_pair(chance: &mut Chance) -> (Receiver, Source) {
 pub fn wall_before(chance: &mut Chance, course: &Course, receiver: &Receiver) -> Wall {
     let piece = chance.pick(&pieces(course, receiver));
     aimed(chance, &piece, receiver)
+}
+
+/// How far from the longest short ray a wall may still tell how the ray bends.
+const TELLING: i64 = 100;
+
+/// A way of about the longest short ray, within so many mm of it, if one is found.
+fn nearly_short_ray(chance: &mut Chance) -> Option<Way> {
+    let height = chance.edge_in(&HEIGHT);
+    let rise = height - SOURCE_HEIGHT;
+    let s = SHORT_RAY + chance.between(-TELLING, TELLING);
+    let on_map = s * s / 100 - rise * rise;
+    let dx = chance.between(0, root(on_map));
+    let dy = root(on_map - dx * dx);
+    let found = root(100 * (dx * dx + dy * dy + rise * rise));
+    ((found - SHORT_RAY).abs() <= TELLING).then_some(Way { dx, dy, height })
+}
+
+/// Whether a screen takes something else where its ray bends by the other rule.
+fn tells_the_bend(screen: &Screen) -> bool {
+    let other = if screen.s <= SHORT_RAY {
+        LONG_BEND * screen.s
+    } else {
+        SHORT_BEND
+    };
+    screen.detour() > 0 && screen.detour() != screen.detour_by(screen.lift_by(other))
+}
+
+/// A receiver, a source at about the longest short ray from it, and a wall between them that takes
+/// something else where the ray bends by the other rule, if such a one is found.
+pub fn turning_ray(chance: &mut Chance) -> (Receiver, Source, Wall) {
+    let length = chance.between(100, 3000);
+    let (receiver, mut source) = screened_pair(chance);
+    source = source.uncut(length);
+    let mut wall = wall_before(chance, &source.course, &receiver);
+    for _ in 0..2000 {
+        let Some(way) = nearly_short_ray(chance) else {
+            continue;
+        };
+        let receiver = Receiver {
+            height: way.height,
+            ..receiver
+        };
+        source = way.place(source, &receiver);
+        let piece = Piece::new(source.course.middle(), length, &receiver);
+        let line = Line {
+            from: piece.middle,
+            to: receiver.place(),
+        };
+        let [first, second] = across(chance, &line).map(on_the_map);
+        let height = chance.between(500, WALL_HEIGHT.most());
+        wall = Wall {
+            first,
+            second,
+            height,
+        };
+        let at = wall.crossing(line.from, line.to);
+        let screen = at.map(|at| Screen::new(&wall, at, &piece, &receiver));
+        if screen.is_some_and(|screen| tells_the_bend(&screen)) {
+            return (receiver, source, wall);
+        }
+    }
+    (receiver, source, wall)
 }
 
 /// A receiver, a source that is too loud for it, mostly just so, and a wall that takes enough or

@@ -12,7 +12,7 @@ use crate::fields::{
     SURFACE, TRUCKS, TRUCK_SPEED, VEHICLES, WALLS, WALL_FIELDS, WALL_HEIGHT,
 };
 use crate::level::FAINTEST;
-use crate::limits::{trial_values, TURNING_SPEEDS};
+use crate::limits::{trial_values, PAPER_LENGTHS, TURNING_SPEEDS};
 use crate::probe::{Frame, LONGEST_IMAGE};
 use crate::record::{kind_byte, spare_bits, unlisted_kinds, Record};
 use crate::road::{Receiver, Source, Traffic, FAST_ABOVE, FAST_SURFACE};
@@ -327,6 +327,57 @@ const WORKED_WALLS: [Wall; 28] = [
     Wall::new(90_000, 99_999, 120_000, 100_001, 400),
 ];
 
+/// The wall halfway in the worked case, where hD is 2250 and the ground takes nothing, at heights about
+/// hD and all others worth trying.
+fn halfway_walls() -> Vec<Wall> {
+    let mut heights = WALL_HEIGHT.inner_edges();
+    heights.extend([224, 225, 226, 250, 400]);
+    let with_height = |height| Wall {
+        height,
+        ..HALFWAY_WALL
+    };
+    heights.into_iter().map(with_height).collect()
+}
+
+/// A job in which such walls come and go before the source of the worked case in every kind.
+fn halfway_job() -> Vec<u8> {
+    let mut job = vec![Record::PlaceReceiver(5, example_receiver())];
+    for source in every_way(example_source()) {
+        job.push(source);
+        for wall in halfway_walls() {
+            job.extend([Record::PlaceWall(0, wall), Record::Ask(5)]);
+            job.push(Record::WithdrawWall(0));
+        }
+        job.push(Record::WithdrawSource(source.slot()));
+    }
+    bytes_of(&job)
+}
+
+/// A job in which roads between two ends come before two walls that count for some of their pieces,
+/// while others of their pieces are too near or too far, or are not, and uncut ones which are too long,
+/// just not, or too loud; and again before one of the walls.
+fn crowded_job() -> Vec<u8> {
+    let wall = |slot, x| Record::PlaceWall(slot, Wall::new(x, 99_000, x, 101_000, 300));
+    let mut job = vec![Record::PlaceReceiver(5, example_receiver())];
+    job.extend([wall(0, 100_500), wall(1, 100_501)]);
+    let uncut = [
+        example_source().uncut(PAPER_LENGTHS[1]),
+        example_source().uncut(PAPER_LENGTHS[2]),
+        loudest_source().moved(100_600, 100_000).uncut(250),
+        loudest_source().moved(100_600, 100_000).uncut(400),
+    ];
+    let uncut = uncut.map(|source| Record::PlaceSource(3, source));
+    let roads = worked_records().into_iter().chain(uncut);
+    let tried = roads.flat_map(|road| {
+        let leave = Record::WithdrawSource(road.slot());
+        [road, Record::Ask(5), leave]
+    });
+    job.extend(tried.clone());
+    job.push(Record::WithdrawWall(1));
+    job.extend(tried);
+    bytes_of(&job)
+}
+
 /// A job in which these walls come and go, one alone and with the one after it, between the receiver
 /// of the worked case and sources at 100 m of every kind.
 fn walled_job() -> Vec<u8> {
@@ -429,6 +480,8 @@ pub fn fixed_jobs() -> Vec<Vec<u8>> {
         parade(&surfaced_records()),
         parade(&worked_records()),
         walled_job(),
+        halfway_job(),
+        crowded_job(),
         [example(), leftover_records().concat()].concat(),
     ];
     jobs.extend(cut_records().iter().map(after_example));

@@ -1,7 +1,7 @@
 // Stored states that are not damaged but that no history has, with the calls that meet this.
 // Also pairs just at the limits, where one step decides between two answers.
 
-use crate::aims::{loud_behind_a_wall, screened_pair, wall_before};
+use crate::aims::{loud_behind_a_wall, screened_pair, turning_ray, wall_before};
 use crate::book::{decode, mean_energy, Account, Book, TOP};
 use crate::chance::Chance;
 use crate::course::Course;
@@ -230,7 +230,7 @@ pub(crate) fn screened(chance: &mut Chance) -> Frame {
     book.accounts[r as usize] = Some(Account { receiver, sums });
     let place = placing(chance, s, source);
     book.sources[s as usize] = place.source();
-    for _ in 0..chance.pick(&[0, 1, 1, 2, 3]) {
+    for _ in 0..chance.pick(&[0, 1, 1, 2, 2, 3]) {
         let wall = wall_before(chance, &source.course, &receiver);
         book.walls[chance.edge_in(&WALL_SLOT) as usize] = Some(wall);
     }
@@ -276,6 +276,25 @@ fn add_neighbours(chance: &mut Chance, book: &mut Book, receiver: &Receiver, sou
         let other = source.moved(middle.x + dx, middle.y + dy);
         book.sources[chance.index(SOURCES)] = Some(on_the_map(other));
     }
+}
+
+/// A source and a receiver so far apart that the rule turns by which a ray bends, and a wall that
+/// comes between them or stands there while one of them comes.
+pub(crate) fn turning(chance: &mut Chance) -> Frame {
+    let (receiver, source, wall) = turning_ray(chance);
+    let (r, s) = (chance.edge_in(&RECEIVER_SLOT), chance.edge_in(&SOURCE_SLOT));
+    let w = chance.edge_in(&WALL_SLOT);
+    let mut book = Book::cleared();
+    let mut records = vec![
+        Record::PlaceReceiver(r, receiver),
+        placing(chance, s, source),
+        Record::PlaceWall(w, wall),
+    ];
+    let last = records.remove(chance.index(3));
+    for record in records {
+        book.apply(&record);
+    }
+    frame_of(&book, &last)
 }
 
 /// A source that is too loud without the wall before it, and the call that takes the wall away, or

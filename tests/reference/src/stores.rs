@@ -14,7 +14,7 @@ use crate::fixed::sum_edges;
 use crate::inconsistent::{
     asked, bad_pair, bad_pair_walled, barely_asked, cut_pair, faint_level, high_sum, loud_walled,
     low_sum, met_by_receiver, met_by_source, screened, screened_sums, tight_level, tight_square,
-    wall_call,
+    turning, wall_call,
 };
 use crate::limits::trial_value;
 use crate::probe::{Frame, LONGEST_IMAGE, LONGEST_PIECE};
@@ -32,7 +32,7 @@ use crate::wall::Wall;
 type Maker = fn(&mut Chance) -> Frame;
 
 /// The kinds of probes, with the names they are counted by.
-const KINDS: [(&str, Maker); 41] = [
+const KINDS: [(&str, Maker); 45] = [
     ("sound", sound),
     ("unread", unread),
     ("disallowed", disallowed),
@@ -44,9 +44,11 @@ const KINDS: [(&str, Maker); 41] = [
     ("source-field", source_field),
     ("source-field", source_field),
     ("source-field", source_field),
+    ("source-field", source_field),
     ("course", course),
     ("course", course),
     ("receiver-field", receiver_field),
+    ("sum", sums),
     ("sum", sums),
     ("length", wrong_length),
     ("dense", dense),
@@ -68,6 +70,8 @@ const KINDS: [(&str, Maker); 41] = [
     ("bad-pair-walled", bad_pair_walled),
     ("bad-pair-walled", bad_pair_walled),
     ("loud-walled", loud_walled),
+    ("turning", turning),
+    ("turning", turning),
     ("tight-square", tight_square),
     ("tight-level", tight_level),
     ("faint-level", faint_level),

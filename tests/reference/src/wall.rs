@@ -27,8 +27,8 @@ const MM: i64 = 10;
 /// The longest ray that bends as the short ones do, and how these bend (gamma), in mm; of a longer
 /// ray gamma is so many times its length.
 pub const SHORT_RAY: i64 = 125_000;
-const SHORT_BEND: i64 = 1_000_000;
-const LONG_BEND: i64 = 8;
+pub const SHORT_BEND: i64 = 1_000_000;
+pub const LONG_BEND: i64 = 8;
 
 /// The least detour for which a wall takes something.
 pub const LEAST_DETOUR: i64 = -33;
@@ -130,11 +130,15 @@ impl Screen {
 
     /// By how much higher a bent ray passes it.
     pub fn lift(&self) -> i64 {
-        let bend = if self.s <= SHORT_RAY {
+        self.lift_by(if self.s <= SHORT_RAY {
             SHORT_BEND
         } else {
             LONG_BEND * self.s
-        };
+        })
+    }
+
+    /// The same for a bend.
+    pub fn lift_by(&self, bend: i64) -> i64 {
         let once = self.a * self.b * self.s / (2 * bend * self.s0);
         once * self.s / self.s0
     }
@@ -148,7 +152,12 @@ impl Screen {
 
     /// z, by how much the way over the edge is longer than the ray's.
     pub fn detour(&self) -> i64 {
-        self.way_over(self.edge) - self.way_over(self.straight() + self.lift())
+        self.detour_by(self.lift())
+    }
+
+    /// The same for a lift.
+    pub fn detour_by(&self, lift: i64) -> i64 {
+        self.way_over(self.edge) - self.way_over(self.straight() + lift)
     }
 
     /// Dz, what the wall takes.

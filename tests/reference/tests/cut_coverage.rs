@@ -287,7 +287,7 @@ fn jobs_withdraw_roads_that_are_cut() {
 #[test]
 fn probes_meet_the_late_damage_of_roads_that_are_cut() {
     let (mut placing, mut withdrawing, mut withdrawn_well) = (0, 0, 0);
-    for mut frame in (1..=6000).map(frame) {
+    for mut frame in (1..=8000).map(frame) {
         let (Some(book), Ok((record, _))) = (decode(&frame.image), read(&frame.record)) else {
             continue;
         };
@@ -304,7 +304,7 @@ fn probes_meet_the_late_damage_of_roads_that_are_cut() {
         }
     }
     let counts = [placing, withdrawing, withdrawn_well];
-    assert!(counts.into_iter().all(|count| count >= 10), "{counts:?}");
+    assert!(counts.into_iter().all(|count| count >= 5), "{counts:?}");
 }
 
 /// What the used source slots of stored states say of a course, and whether the state is damaged by

@@ -245,7 +245,7 @@ fn stored_states_by_chance_meet_both_sides_of_every_field() {
     };
     let all = Missed::stored();
     let mut missed = Missed(all.0.clone());
-    (1..=4000).for_each(|seed| missed.meet_image(&frame(seed).image));
+    (1..=6000).for_each(|seed| missed.meet_image(&frame(seed).image));
     let met = Missed(&all.0 - &missed.0);
     assert_eq!(&sides(&all) - &sides(&met), BTreeSet::new());
 }
