@@ -188,9 +188,11 @@ pub fn screens<'a>(
 /// What the walls take between a piece and a receiver; refusal 14 where more than one counts.
 pub fn screening(piece: &Piece, receiver: &Receiver, walls: &[Wall]) -> Result<i64, u8> {
     let mut screens = screens(piece, receiver, walls);
-    let taken = screens.next().map_or(0, |screen| screen.taken());
+    let Some(screen) = screens.next() else {
+        return Ok(0);
+    };
     match screens.next() {
         Some(_) => Err(CROWDED),
-        None => Ok(taken),
+        None => Ok(screen.taken()),
     }
 }
