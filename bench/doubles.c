@@ -5,7 +5,7 @@
 #include <stdio.h>
 #include <stdlib.h>
 
-enum { SOURCES = 512, RECEIVERS = 64, PERIODS = 3 };
+enum { SOURCES = 512, RECEIVERS = 64, WALLS = 64, PERIODS = 3 };
 
 struct point {
     double x, y;
@@ -27,8 +27,19 @@ struct receiver {
     double sum[PERIODS];
 };
 
+struct wall {
+    int used;
+    struct point first, second;
+    double height;
+};
+
 static struct source sources[SOURCES];
 static struct receiver receivers[RECEIVERS];
+static struct wall walls[WALLS];
+
+/* The walls in use, gathered anew for every call that needs them. */
+static struct wall standing[WALLS];
+static int standing_count;
 
 static const double weather[PERIODS] = {2.0, 1.0, 0.0};
 
@@ -166,15 +177,53 @@ static double square_in_space(const struct receiver *r, double on_map)
     return on_map + dz * dz;
 }
 
+/* What a wall takes that is met after a part of the way. */
+static double screen(const struct wall *w, const struct receiver *r, double part, double on_map,
+                     double way)
+{
+    double before = part * on_map, behind = on_map - before;
+    double straight = 0.5 + part * (r->height - 0.5);
+    if (w->height < straight)
+        return 0;
+    double bend = way <= 125 ? 1000 : 8 * way;
+    double bent = straight + before * behind / (2 * bend) * (way / on_map) * (way / on_map);
+    double up = w->height - 0.5, down = r->height - w->height;
+    double bent_up = bent - 0.5, bent_down = r->height - bent;
+    double before_square = before * before, behind_square = behind * behind;
+    double detour = sqrt(before_square + up * up) + sqrt(behind_square + down * down) -
+                    sqrt(before_square + bent_up * bent_up) -
+                    sqrt(behind_square + bent_down * bent_down);
+    return detour > -1.0 / 30 ? 10 * log10(3 + 60 * detour) : 0;
+}
+
+/* What the wall takes that is in the way of a piece, if there is one. */
+static double screening(const struct receiver *r, struct point middle, double on_map, double way)
+{
+    double dx = r->place.x - middle.x, dy = r->place.y - middle.y;
+    for (int at = 0; at < standing_count; at++) {
+        const struct wall *w = &standing[at];
+        double x1 = w->first.x - middle.x, y1 = w->first.y - middle.y;
+        double x2 = w->second.x - middle.x, y2 = w->second.y - middle.y;
+        double side = dx * y1 - dy * x1, other_side = dx * y2 - dy * x2;
+        if (side * other_side > 0 || side == other_side)
+            continue;
+        double part = (x1 * y2 - y1 * x2) / (other_side - side);
+        if (part > 0 && part < 1)
+            return screen(w, r, part, on_map, way);
+    }
+    return 0;
+}
+
 /* Adds (sign 1) or takes away (sign -1) what a piece of a source brings to a receiver. */
-static void piece(const struct source *s, struct receiver *r, double length, double square_map,
-                  double sign)
+static void piece(const struct source *s, struct receiver *r, struct point middle, double length,
+                  double square_map, double sign)
 {
     double square = square_in_space(r, square_map);
     double on_map = sqrt(square_map), way = sqrt(square);
     double heights = r->height + 0.5;
+    double ground = 4.8 - heights / 2 / way * (34 + 600 / way);
     double lost = way / 200 - 11.2 - 10 * log10(length / square);
-    lost += fmax(0, 4.8 - heights / 2 / way * (34 + 600 / way));
+    lost += fmax(fmax(0, ground), screening(r, middle, on_map, way));
     double part = on_map > 10 * heights ? 1 - 10 * heights / on_map : 0;
     for (int period = 0; period < PERIODS; period++) {
         if (!s->drives[period])
@@ -197,7 +246,7 @@ static void pieces(const struct source *s, struct receiver *r, struct point firs
         pieces(s, r, first, middle, sign);
         pieces(s, r, middle, second, sign);
     } else {
-        piece(s, r, sqrt(square_length), square_map, sign);
+        piece(s, r, middle, sqrt(square_length), square_map, sign);
     }
 }
 
@@ -207,7 +256,24 @@ static void account(const struct source *s, struct receiver *r, double sign)
     if (s->is_cut)
         pieces(s, r, s->first, s->second, sign);
     else
-        piece(s, r, s->length, square_on_map(r, s->middle), sign);
+        piece(s, r, s->middle, s->length, square_on_map(r, s->middle), sign);
+}
+
+static void gather_walls(void)
+{
+    standing_count = 0;
+    for (int slot = 0; slot < WALLS; slot++)
+        if (walls[slot].used)
+            standing[standing_count++] = walls[slot];
+}
+
+static void sum_up(struct receiver *r)
+{
+    for (int period = 0; period < PERIODS; period++)
+        r->sum[period] = 0;
+    for (int slot = 0; slot < SOURCES; slot++)
+        if (sources[slot].used)
+            account(&sources[slot], r, 1);
 }
 
 static void place_receiver(struct bits *bits)
@@ -216,15 +282,37 @@ static void place_receiver(struct bits *bits)
     r->place = take_point(bits);
     r->height = take(bits, 9) / 100.0;
     r->used = 1;
-    for (int period = 0; period < PERIODS; period++)
-        r->sum[period] = 0;
-    for (int slot = 0; slot < SOURCES; slot++)
-        if (sources[slot].used)
-            account(&sources[slot], r, 1);
+    gather_walls();
+    sum_up(r);
+}
+
+static void sum_all_up(void)
+{
+    gather_walls();
+    for (int slot = 0; slot < RECEIVERS; slot++)
+        if (receivers[slot].used)
+            sum_up(&receivers[slot]);
+}
+
+static void place_wall(struct bits *bits)
+{
+    struct wall *w = &walls[take(bits, 6)];
+    w->first = take_point(bits);
+    w->second = take_point(bits);
+    w->height = take(bits, 11) / 100.0;
+    w->used = 1;
+    sum_all_up();
+}
+
+static void withdraw_wall(struct bits *bits)
+{
+    walls[take(bits, 6)].used = 0;
+    sum_all_up();
 }
 
 static void change_source(struct source *s, double sign)
 {
+    gather_walls();
     for (int slot = 0; slot < RECEIVERS; slot++)
         if (receivers[slot].used)
             account(s, &receivers[slot], sign);
@@ -279,14 +367,14 @@ static unsigned char *read_job(size_t *length)
 
 int main(void)
 {
-    static const int lengths[8] = {0, 9, 2, 30, 2, 2, 20, 34};
+    static const int lengths[10] = {0, 9, 2, 30, 2, 2, 20, 34, 15, 2};
     size_t length, at = 0;
     unsigned char *job = read_job(&length);
     long number = 0;
     while (job && at < length) {
         struct bits bits = {job + at, 0, 0};
         long kind = take(&bits, 4);
-        if (kind < 1 || kind > 7)
+        if (kind < 1 || kind > 9)
             break;
         at += lengths[kind];
         number++;
@@ -298,6 +386,10 @@ int main(void)
             withdraw_source(&bits);
         else if (kind == 5)
             ask(number, &bits);
+        else if (kind == 8)
+            place_wall(&bits);
+        else if (kind == 9)
+            withdraw_wall(&bits);
         else
             place_source(&bits, kind);
     }

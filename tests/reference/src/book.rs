@@ -1,14 +1,15 @@
-// The book: sources and receivers in their slots, and what each receiver has gathered.
+// The book: sources, receivers and walls in their slots, and what each receiver has gathered.
 // A refused call changes nothing, so every call finds out all it needs before it writes.
 
 use crate::daily::{judge_daily, Daily};
-use crate::fields::{RECEIVERS, RECEIVER_SLOT, SOURCES, SOURCE_SLOT};
+use crate::fields::{RECEIVERS, RECEIVER_SLOT, SOURCES, SOURCE_SLOT, WALLS, WALL_SLOT};
 use crate::level::{energy, level};
 use crate::record::{read, Record};
 use crate::road::{
-    emission, judge_receiver, judge_source, judge_value, refusal, shares, Receiver, Refusal,
-    Shares, Source, GREATEST_SHARE,
+    emission, judge_receiver, judge_source, judge_value, refusal, shares, PeriodLevels, Receiver,
+    Refusal, Shares, Source, GREATEST_SHARE,
 };
+use crate::wall::{judge_wall, Wall};
 
 pub use crate::store::{decode, encode};
 
@@ -27,6 +28,7 @@ pub struct Account {
 pub struct Book {
     pub sources: Vec<Option<Source>>,
     pub accounts: Vec<Option<Account>>,
+    pub walls: Vec<Option<Wall>>,
 }
 
 /// Both indices in tenths of a decibel; none is quiet.
@@ -44,7 +46,7 @@ pub enum Answer {
     Refused(Refusal),
 }
 
-/// What one new or leaving source brings to every receiver slot.
+/// What one new or leaving source, or what all together, bring to every receiver slot.
 type Round = [Shares; RECEIVERS];
 
 const DAMAGED: Refusal = refusal(1);
@@ -53,6 +55,12 @@ fn pair_refusal(number: u8, other: usize) -> Refusal {
     Refusal {
         number,
         place: other as u16,
+    }
+}
+
+fn add(sums: &mut Shares, shares: &Shares) {
+    for (sum, share) in sums.iter_mut().zip(shares) {
+        *sum += share;
     }
 }
 
@@ -68,16 +76,30 @@ impl Book {
         Book {
             sources: vec![None; SOURCES],
             accounts: vec![None; RECEIVERS],
+            walls: vec![None; WALLS],
         }
+    }
+
+    /// The walls that stand.
+    pub fn standing_walls(&self) -> Vec<Wall> {
+        self.walls.iter().flatten().copied().collect()
+    }
+
+    /// The walls that stand in other slots.
+    fn walls_but(&self, slot: usize) -> Vec<Wall> {
+        let (before, from) = self.walls.split_at(slot);
+        let others = before.iter().chain(&from[1..]);
+        others.flatten().copied().collect()
     }
 
     /// Shares of a source at every standing receiver, or the first refused pair.
     fn round(&self, source: &Source) -> Result<Round, Refusal> {
+        let walls = self.standing_walls();
         let sent = emission(source);
         let mut round = [[0; 3]; RECEIVERS];
         for (slot, account) in self.accounts.iter().enumerate() {
             if let Some(account) = account {
-                round[slot] = shares(source, &sent, &account.receiver)
+                round[slot] = shares(source, &sent, &account.receiver, &walls)
                     .map_err(|number| pair_refusal(number, slot))?;
             }
         }
@@ -154,14 +176,56 @@ impl Book {
 
     /// What all standing sources bring to a receiver, or the first refused pair.
     fn gathered(&self, receiver: &Receiver) -> Result<Shares, Refusal> {
+        let walls = self.standing_walls();
         let mut sums = [0; 3];
         for (slot, source) in self.sources.iter().enumerate() {
             let Some(source) = source else { continue };
             let sent = emission(source);
-            let brought =
-                shares(source, &sent, receiver).map_err(|number| pair_refusal(number, slot))?;
-            for (sum, share) in sums.iter_mut().zip(brought) {
-                *sum += share;
+            let brought = shares(source, &sent, receiver, &walls)
+                .map_err(|number| pair_refusal(number, slot))?;
+            add(&mut sums, &brought);
+        }
+        Ok(sums)
+    }
+
+    pub fn place_wall(&mut self, slot: i64, wall: &Wall) -> Result<(), Refusal> {
+        judge_value(slot, &WALL_SLOT)?;
+        judge_wall(wall)?;
+        if self.walls[slot as usize].is_some() {
+            return Err(refusal(8));
+        }
+        let mut walls = self.standing_walls();
+        walls.push(*wall);
+        let sums = self.afresh(&walls)?;
+        self.set_sums(&sums);
+        self.walls[slot as usize] = Some(*wall);
+        Ok(())
+    }
+
+    pub fn withdraw_wall(&mut self, slot: i64) -> Result<(), Refusal> {
+        judge_value(slot, &WALL_SLOT)?;
+        if self.walls[slot as usize].is_none() {
+            return Err(refusal(9));
+        }
+        let sums = self.afresh(&self.walls_but(slot as usize))?;
+        self.set_sums(&sums);
+        self.walls[slot as usize] = None;
+        Ok(())
+    }
+
+    /// The sums of every standing receiver with these walls, or the receiver of the first pair that
+    /// is refused; what a source sends out is worked out once for all receivers.
+    fn afresh(&self, walls: &[Wall]) -> Result<Round, Refusal> {
+        let sources = self.sources.iter().flatten();
+        let sent: Vec<(&Source, PeriodLevels)> =
+            sources.map(|source| (source, emission(source))).collect();
+        let mut sums = [[0; 3]; RECEIVERS];
+        for (slot, account) in self.accounts.iter().enumerate() {
+            let Some(account) = account else { continue };
+            for (source, sent) in &sent {
+                let brought = shares(source, sent, &account.receiver, walls)
+                    .map_err(|number| pair_refusal(number, slot))?;
+                add(&mut sums[slot], &brought);
             }
         }
         Ok(sums)
@@ -187,6 +251,8 @@ impl Book {
             Record::PlaceSource(slot, source) => self.place_source(*slot, source),
             Record::PlaceDaily(slot, daily) => self.place_daily(*slot, daily),
             Record::WithdrawSource(slot) => self.withdraw_source(*slot),
+            Record::PlaceWall(slot, wall) => self.place_wall(*slot, wall),
+            Record::WithdrawWall(slot) => self.withdraw_wall(*slot),
             Record::Ask(slot) => match self.ask(*slot) {
                 Ok(levels) => return Answer::Levels(levels),
                 Err(refusal) => Err(refusal),

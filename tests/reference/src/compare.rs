@@ -2,6 +2,7 @@
 // Also what the comparing programs share: their arguments, the probes and the reports.
 
 use crate::probe::{HEAD, HEAD_NAMES};
+use crate::road::NUMBERS;
 use std::io::{self, Read, Write};
 use std::path::PathBuf;
 use std::process::{Command, ExitCode, Stdio};
@@ -178,7 +179,7 @@ impl Probe {
 }
 
 /// The numbers of refusals as one piece of a summary line, from 1 or 2 on.
-pub fn refusal_counts(counts: &[u64; 14], first: usize) -> String {
+pub fn refusal_counts(counts: &[u64; NUMBERS], first: usize) -> String {
     let words: Vec<String> = (first..counts.len())
         .map(|number| format!("{number}:{}", counts[number]))
         .collect();

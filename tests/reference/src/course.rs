@@ -119,10 +119,11 @@ impl Course {
     }
 }
 
-/// A piece of road before a receiver: its length, and the squared distances from its middle,
-/// on the map and in space.
+/// A piece of road before a receiver: its middle and length, and the squared distances from its
+/// middle, on the map and in space.
 #[derive(Clone, Copy, Debug, PartialEq, Eq)]
 pub struct Piece {
+    pub middle: Point,
     pub length: i64,
     pub on_map: i64,
     pub in_space: i64,
@@ -130,13 +131,10 @@ pub struct Piece {
 
 impl Piece {
     pub fn new(middle: Point, length: i64, receiver: &Receiver) -> Piece {
-        let here = Point {
-            x: receiver.x,
-            y: receiver.y,
-        };
-        let on_map = square_between(middle, here);
+        let on_map = square_between(middle, receiver.place());
         let rise = receiver.height - SOURCE_HEIGHT;
         Piece {
+            middle,
             length,
             on_map,
             in_space: on_map + rise * rise,

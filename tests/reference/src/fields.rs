@@ -1,9 +1,10 @@
-// The fields of sources and receivers, and the slots there are: every limit of them, said once.
+// The fields of sources, receivers and walls, and the slots there are: every limit of them, said once.
 // Judging, reading, writing and storing go by these tables, and so do the edges that are tried.
 
 /// Slots of the book.
 pub const SOURCES: usize = 512;
 pub const RECEIVERS: usize = 64;
+pub const WALLS: usize = 64;
 
 /// A field: its number and name, its bits in a record, and the ranges that are allowed.
 #[derive(Clone, Copy, Debug, PartialEq, Eq)]
@@ -43,6 +44,7 @@ pub const FARTHEST: i64 = widest(MAP);
 
 pub const SOURCE_SLOT: Field = field(1, "slot", 9, &[(0, SOURCES as i64 - 1)]);
 pub const RECEIVER_SLOT: Field = field(1, "slot", 6, &[(0, RECEIVERS as i64 - 1)]);
+pub const WALL_SLOT: Field = field(1, "slot", 6, &[(0, WALLS as i64 - 1)]);
 pub const X: Field = field(2, "x", MAP, &[(0, FARTHEST)]);
 pub const Y: Field = field(3, "y", MAP, &[(0, FARTHEST)]);
 pub const FIRST_X: Field = field(2, "x of the first end", MAP, &[(0, FARTHEST)]);
@@ -62,11 +64,11 @@ pub const GRADIENT: Field = field(
     &[(0, STEEPEST), (MINUS + 1, MINUS + STEEPEST)],
 );
 pub const REFLECTION: Field = field(10, "reflection", 3, &[(0, 4)]);
-pub const WALLS: Field = field(11, "walls", 2, &[(0, 3)]);
+pub const PARALLEL_WALLS: Field = field(11, "parallel walls", 2, &[(0, 3)]);
 
-/// The sizes of walls, where there are any; where there are none both are 0.
-pub const WALL_HEIGHT: Field = field(12, "wall height", 12, &[(1, 4000)]);
-pub const WALL_SPACING: Field = field(13, "wall spacing", 14, &[(1, 16_383)]);
+/// The sizes of parallel walls, where there are any; where there are none both are 0.
+pub const PARALLEL_HEIGHT: Field = field(12, "height of parallel walls", 12, &[(1, 4000)]);
+pub const PARALLEL_SPACING: Field = field(13, "spacing of parallel walls", 14, &[(1, 16_383)]);
 
 /// Traffic by day; evening and night have the same limits.
 pub const VEHICLES: Field = vehicles(14);
@@ -84,6 +86,11 @@ const fn trucks(number: u16) -> Field {
 pub const CLASS: Field = field(14, "class", 2, &[(0, 3)]);
 pub const DTV: Field = field(15, "DTV", 18, &[(1, 160_000)]);
 
+/// The second end of a wall, which has numbers of its own, and how high its edge is.
+pub const WALL_SECOND_X: Field = field(4, "x of the wall's second end", MAP, &[(0, FARTHEST)]);
+pub const WALL_SECOND_Y: Field = field(5, "y of the wall's second end", MAP, &[(0, FARTHEST)]);
+pub const WALL_HEIGHT: Field = field(6, "height of the wall", 11, &[(1, 2000)]);
+
 /// Where a source runs: by its middle and length, which is not cut, or by its two ends.
 pub static UNCUT_COURSE: [Field; 3] = [X, Y, LENGTH];
 pub static BETWEEN_COURSE: [Field; 4] = [FIRST_X, FIRST_Y, SECOND_X, SECOND_Y];
@@ -96,9 +103,9 @@ const ROAD_FIELDS: [Field; 9] = [
     SURFACE,
     GRADIENT,
     REFLECTION,
-    WALLS,
-    WALL_HEIGHT,
-    WALL_SPACING,
+    PARALLEL_WALLS,
+    PARALLEL_HEIGHT,
+    PARALLEL_SPACING,
 ];
 
 /// The traffic of a source, period by period.
@@ -142,6 +149,10 @@ pub const fn joined<const N: usize>(tables: &[&[Field]]) -> [Field; N] {
 /// The fields of a receiver in their order.
 pub static RECEIVER_FIELDS: [Field; 4] = [RECEIVER_SLOT, X, Y, HEIGHT];
 
+/// Where a wall stands, and the fields of a wall in their order.
+pub static WALL_ENDS: [Field; 4] = [FIRST_X, FIRST_Y, WALL_SECOND_X, WALL_SECOND_Y];
+pub static WALL_FIELDS: [Field; 6] = joined(&[&[WALL_SLOT], &WALL_ENDS, &[WALL_HEIGHT]]);
+
 impl Field {
     /// The least value that is allowed.
     pub const fn least(&self) -> i64 {
@@ -159,9 +170,9 @@ impl Field {
         ranges.any(|&(first, last)| first <= value && value <= last)
     }
 
-    /// Whether the field is a size of walls.
-    pub fn of_walls(&self) -> bool {
-        [WALL_HEIGHT.number, WALL_SPACING.number].contains(&self.number)
+    /// Whether the field is a size of parallel walls.
+    pub fn of_parallel_walls(&self) -> bool {
+        [PARALLEL_HEIGHT.number, PARALLEL_SPACING.number].contains(&self.number)
     }
 
     /// Where the field is in a table that has it.

@@ -1,24 +1,27 @@
 // Jobs and probes that are tried every time, whatever the seed is.
 // They go through what can be listed in full: cuts, kinds, limits of fields, marks, lengths.
 
-use crate::book::{decode, encode, Book, TOP};
+use crate::book::{decode, encode, Account, Book, TOP};
 use crate::chance::Chance;
 use crate::course::Course;
 use crate::cuts::{corner_roads, stretched_roads};
 use crate::daily::Daily;
 use crate::fields::{
-    Field, BETWEEN_COURSE, CAR_SPEED, GRADIENT, LENGTH, MINUS, RECEIVERS, RECEIVER_FIELDS, SOURCES,
-    SOURCE_SLOT, STEEPEST, SURFACE, TRUCKS, TRUCK_SPEED, VEHICLES, WALLS, WALL_HEIGHT,
-    WALL_SPACING,
+    Field, BETWEEN_COURSE, CAR_SPEED, FARTHEST, GRADIENT, LENGTH, MINUS, PARALLEL_HEIGHT,
+    PARALLEL_SPACING, PARALLEL_WALLS, RECEIVERS, RECEIVER_FIELDS, SOURCES, SOURCE_SLOT, STEEPEST,
+    SURFACE, TRUCKS, TRUCK_SPEED, VEHICLES, WALLS, WALL_FIELDS, WALL_HEIGHT,
 };
-use crate::limits::{trial_values, TURNING_SPEEDS};
+use crate::level::FAINTEST;
+use crate::limits::{trial_values, PAPER_LENGTHS, TURNING_SPEEDS};
 use crate::probe::{Frame, LONGEST_IMAGE};
 use crate::record::{kind_byte, spare_bits, unlisted_kinds, Record};
 use crate::road::{Receiver, Source, Traffic, FAST_ABOVE, FAST_SURFACE};
 use crate::store::{
-    receiver_at, receiver_index, set_field, source_at, source_index, BETWEEN_SLOT, RECEIVER_BYTES,
-    RECEIVER_SIZE, SOURCE_BYTES, SOURCE_SIZE, STORE_SIZE, SUMS, UNCUT_SLOT,
+    receiver_at, receiver_index, set_field, source_at, source_index, wall_at, wall_index,
+    BETWEEN_SLOT, RECEIVER_BYTES, RECEIVER_SIZE, SOURCE_BYTES, SOURCE_SIZE, STORE_SIZE, SUMS,
+    UNCUT_SLOT, WALL_BYTES, WALL_SIZE,
 };
+use crate::wall::Wall;
 
 /// The receiver of the worked case at 25 m.
 pub fn example_receiver() -> Receiver {
@@ -44,12 +47,12 @@ pub fn example_source() -> Source {
     source
 }
 
-/// The same source between walls, so that every field of it counts.
+/// The same source between parallel walls, so that every field of it counts.
 fn walled_source() -> Source {
     Source {
-        walls: 1,
-        wall_height: 600,
-        wall_spacing: 1200,
+        parallel_walls: 1,
+        parallel_height: 600,
+        parallel_spacing: 1200,
         ..example_source()
     }
 }
@@ -66,6 +69,12 @@ pub(crate) fn with_ends(source: Source) -> Source {
 fn cut_source() -> Source {
     with_ends(walled_source().uncut(2600))
 }
+
+/// A wall between the receiver and the source of the worked case, halfway and about as high as the
+/// receiver; where it stands; and a wall that is far from both.
+pub const HALFWAY_WALL: Wall = Wall::new(101_250, 99_000, 101_250, 101_000, 400);
+const STANDING: i64 = 2;
+const FAR_WALL: Wall = Wall::new(5_000_000, 6_000_000, 5_003_000, 6_004_000, 250);
 
 /// Records that place a source: with its traffic, by a daily figure as a federal road has it, and
 /// between two ends.
@@ -91,8 +100,22 @@ pub fn example() -> Vec<u8> {
     ])
 }
 
+/// The same job with a wall halfway that comes and goes, and a second one that cannot come.
+pub fn walled_example() -> Vec<u8> {
+    let second = Wall::new(101_000, 99_000, 101_000, 101_000, 1);
+    let walls = bytes_of(&[
+        Record::PlaceWall(0, HALFWAY_WALL),
+        Record::Ask(5),
+        Record::PlaceWall(1, second),
+        Record::WithdrawWall(0),
+        Record::Ask(5),
+        Record::WithdrawWall(0),
+    ]);
+    [example(), walls].concat()
+}
+
 /// One record of each kind, all fit for the worked case.
-pub(crate) fn one_of_each() -> [Record; 7] {
+pub(crate) fn one_of_each() -> [Record; 9] {
     let [place_source, place_daily, place_between] = every_way(example_source());
     [
         Record::PlaceReceiver(6, example_receiver()),
@@ -102,6 +125,8 @@ pub(crate) fn one_of_each() -> [Record; 7] {
         Record::Ask(5),
         place_daily,
         place_between,
+        Record::PlaceWall(3, FAR_WALL),
+        Record::WithdrawWall(STANDING),
     ]
 }
 
@@ -154,6 +179,22 @@ pub(crate) fn trial_records(bits: impl Fn(&Field) -> u32) -> Vec<Record> {
         records.extend(wrong_from_each(record, &bits));
     }
     records.extend(laid_records());
+    let wall = Record::PlaceWall(3, FAR_WALL);
+    records.extend(wrong_from_each(wall, &bits));
+    records.extend(pointed_records());
+    records
+}
+
+/// Records that place a wall with both ends at one place: anywhere, at the corners of the map, and
+/// with a height that is not allowed.
+fn pointed_records() -> Vec<Record> {
+    let mut records = Vec::new();
+    for place in [1, 100_000, 0, FARTHEST] {
+        for height in WALL_HEIGHT.edges(WALL_HEIGHT.bits) {
+            let wall = Wall::new(place, FARTHEST - place, place, FARTHEST - place, height);
+            records.push(Record::PlaceWall(3, wall));
+        }
+    }
     records
 }
 
@@ -218,7 +259,7 @@ fn loudest_source() -> Source {
         truck_speed: TRUCK_SPEED.most(),
         surface: FAST_SURFACE - 1,
         gradient: STEEPEST,
-        wall_height: WALL_HEIGHT.most(),
+        parallel_height: PARALLEL_HEIGHT.most(),
         ..walled_source()
     };
     source.traffic = [Traffic {
@@ -245,6 +286,126 @@ fn worked_records() -> Vec<Record> {
         }
     }
     records
+}
+
+/// Walls about the way of 100 m from a source at (110000, 100000) to the receiver of the worked case.
+/// There s0 is 100000 and halfway hD is 2250.
+const WORKED_WALLS: [Wall; 28] = [
+    // halfway, in either direction, slanting, and at heights about hD and about the receiver's
+    Wall::new(105_000, 99_000, 105_000, 101_000, 400),
+    Wall::new(105_000, 101_000, 105_000, 99_000, 400),
+    Wall::new(104_000, 99_000, 106_000, 101_000, 400),
+    Wall::new(105_000, 99_000, 105_000, 101_000, 224),
+    Wall::new(105_000, 99_000, 105_000, 101_000, 225),
+    Wall::new(105_000, 99_000, 105_000, 101_000, 226),
+    Wall::new(105_000, 99_000, 105_000, 101_000, 1),
+    Wall::new(105_000, 99_000, 105_000, 101_000, 2000),
+    // at other parts of the way, the first and the last that there are among them
+    Wall::new(109_999, 99_999, 109_999, 100_001, 400),
+    Wall::new(100_001, 99_999, 100_001, 100_001, 400),
+    Wall::new(103_333, 99_000, 103_334, 101_000, 400),
+    Wall::new(106_667, 90_000, 106_666, 190_000, 300),
+    // with an end on the way, and one step off it
+    Wall::new(105_000, 100_000, 105_000, 101_000, 400),
+    Wall::new(105_000, 99_000, 105_000, 100_000, 400),
+    Wall::new(105_000, 100_001, 105_000, 101_000, 400),
+    Wall::new(105_000, 99_000, 105_000, 99_999, 400),
+    // through the source's middle and the receiver, and one step beyond them
+    Wall::new(110_000, 99_000, 110_000, 101_000, 400),
+    Wall::new(110_000, 100_000, 110_000, 101_000, 400),
+    Wall::new(100_000, 99_000, 100_000, 101_000, 400),
+    Wall::new(100_000, 100_000, 99_000, 101_000, 400),
+    Wall::new(110_001, 99_000, 110_001, 101_000, 400),
+    Wall::new(99_999, 99_000, 99_999, 101_000, 400),
+    // along the way, over all of it, and beside it
+    Wall::new(103_000, 100_000, 107_000, 100_000, 400),
+    Wall::new(90_000, 100_000, 120_000, 100_000, 400),
+    Wall::new(90_000, 100_001, 120_000, 100_001, 400),
+    // from one end of the map to the other, and nearly along the way
+    Wall::new(105_000, 0, 105_000, FARTHEST, 400),
+    Wall::new(0, 0, FARTHEST, FARTHEST, 400),
+    Wall::new(90_000, 99_999, 120_000, 100_001, 400),
+];
+
+/// The wall halfway in the worked case, where hD is 2250 and the ground takes nothing, at heights about
+/// hD and all others worth trying.
+fn halfway_walls() -> Vec<Wall> {
+    let mut heights = WALL_HEIGHT.inner_edges();
+    heights.extend([224, 225, 226, 250, 400]);
+    let with_height = |height| Wall {
+        height,
+        ..HALFWAY_WALL
+    };
+    heights.into_iter().map(with_height).collect()
+}
+
+/// A job in which such walls come and go before the source of the worked case in every kind.
+fn halfway_job() -> Vec<u8> {
+    let mut job = vec![Record::PlaceReceiver(5, example_receiver())];
+    for source in every_way(example_source()) {
+        job.push(source);
+        for wall in halfway_walls() {
+            job.extend([Record::PlaceWall(0, wall), Record::Ask(5)]);
+            job.push(Record::WithdrawWall(0));
+        }
+        job.push(Record::WithdrawSource(source.slot()));
+    }
+    bytes_of(&job)
+}
+
+/// A job in which roads between two ends come before two walls that count for some of their pieces,
+/// while others of their pieces are too near or too far, or are not, and uncut ones which are too long,
+/// just not, or too loud; and again before one of the walls.
+fn crowded_job() -> Vec<u8> {
+    let wall = |slot, x| Record::PlaceWall(slot, Wall::new(x, 99_000, x, 101_000, 300));
+    let mut job = vec![Record::PlaceReceiver(5, example_receiver())];
+    job.extend([wall(0, 100_500), wall(1, 100_501)]);
+    let uncut = [
+        example_source().uncut(PAPER_LENGTHS[1]),
+        example_source().uncut(PAPER_LENGTHS[2]),
+        loudest_source().moved(100_600, 100_000).uncut(250),
+        loudest_source().moved(100_600, 100_000).uncut(400),
+    ];
+    let uncut = uncut.map(|source| Record::PlaceSource(3, source));
+    let roads = worked_records().into_iter().chain(uncut);
+    let tried = roads.flat_map(|road| {
+        let leave = Record::WithdrawSource(road.slot());
+        [road, Record::Ask(5), leave]
+    });
+    job.extend(tried.clone());
+    job.push(Record::WithdrawWall(1));
+    job.extend(tried);
+    bytes_of(&job)
+}
+
+/// A job in which these walls come and go, one alone and with the one after it, between the receiver
+/// of the worked case and sources at 100 m of every kind.
+fn walled_job() -> Vec<u8> {
+    let mut job = vec![Record::PlaceReceiver(5, example_receiver())];
+    let ask = Record::Ask(5);
+    for source in every_way(example_source().moved(110_000, 100_000)) {
+        let leave = Record::WithdrawSource(source.slot());
+        job.extend([source, ask]);
+        for (at, &wall) in WORKED_WALLS.iter().enumerate() {
+            let next = WORKED_WALLS[(at + 1) % WORKED_WALLS.len()];
+            job.extend([Record::PlaceWall(0, wall), ask, leave, source, ask]);
+            job.extend([
+                Record::PlaceWall(63, next),
+                ask,
+                Record::WithdrawWall(0),
+                ask,
+            ]);
+            job.extend([
+                Record::PlaceWall(0, wall),
+                leave,
+                Record::PlaceWall(0, wall),
+                source,
+            ]);
+            job.extend([Record::WithdrawWall(63), Record::WithdrawWall(0), source]);
+        }
+        job.push(leave);
+    }
+    bytes_of(&job)
 }
 
 /// A record with all fields wrong from one on that can be, for one field after the other.
@@ -291,6 +452,9 @@ fn parade(records: &[Record]) -> Vec<u8> {
             Record::PlaceReceiver(slot, _) => {
                 job.extend([Record::Ask(slot), Record::WithdrawReceiver(slot), stays]);
             }
+            Record::PlaceWall(slot, _) => {
+                job.extend([Record::Ask(5), Record::WithdrawWall(slot)]);
+            }
             Record::WithdrawReceiver(_) => job.push(stays),
             _ => {}
         }
@@ -311,9 +475,13 @@ pub fn fixed_jobs() -> Vec<Vec<u8>> {
     let mut jobs = vec![
         Vec::new(),
         example(),
+        walled_example(),
         parade(&trial_records(|field| field.bits)),
         parade(&surfaced_records()),
         parade(&worked_records()),
+        walled_job(),
+        halfway_job(),
+        crowded_job(),
         [example(), leftover_records().concat()].concat(),
     ];
     jobs.extend(cut_records().iter().map(after_example));
@@ -322,13 +490,14 @@ pub fn fixed_jobs() -> Vec<Vec<u8>> {
     jobs
 }
 
-/// The stored state of the worked case, with a source more that is cut.
+/// The stored state of the worked case, with a source more that is cut and a wall before both.
 fn example_image() -> Vec<u8> {
     let mut book = Book::cleared();
     let placed = book
         .place_receiver(5, &example_receiver())
         .and_then(|()| book.place_source(0, &walled_source()))
-        .and_then(|()| book.place_source(4, &cut_source()));
+        .and_then(|()| book.place_source(4, &cut_source()))
+        .and_then(|()| book.place_wall(STANDING, &HALFWAY_WALL));
     assert!(placed.is_ok(), "the worked case is accepted");
     encode(&book)
 }
@@ -368,8 +537,8 @@ fn image_with(slot_at: usize, widths: &[usize], field: usize, value: u64) -> Vec
     image
 }
 
-/// Probes of fields: each of the standing sources and the receiver at every value worth trying,
-/// with a question and a withdrawal; and each sum, with one record of every kind.
+/// Probes of fields: each of the standing sources, the receiver and the wall at every value worth
+/// trying, with a question and withdrawals; and each sum, with one record of every kind.
 fn field_frames() -> Vec<Frame> {
     let mut frames = Vec::new();
     for (slot, fields) in [(0, &UNCUT_SLOT), (4, &BETWEEN_SLOT)] {
@@ -382,6 +551,11 @@ fn field_frames() -> Vec<Frame> {
     for field in &RECEIVER_FIELDS[1..] {
         let at = receiver_at(5);
         let images = images_with(at, &RECEIVER_BYTES, receiver_index(field), field);
+        frames.extend(images.iter().flat_map(|image| looks(image, 4)));
+    }
+    for field in &WALL_FIELDS[1..] {
+        let at = wall_at(STANDING as usize);
+        let images = images_with(at, &WALL_BYTES, wall_index(field), field);
         frames.extend(images.iter().flat_map(|image| looks(image, 4)));
     }
     for sum in sum_edges() {
@@ -401,12 +575,46 @@ fn images_with(slot_at: usize, widths: &[usize], index: usize, field: &Field) ->
         .collect()
 }
 
-/// Probes of a stored state by a question, and by the withdrawal of a source.
+/// Probes of a stored state by a question, and by the withdrawal of a source and of the wall.
 fn looks(image: &[u8], slot: usize) -> Vec<Frame> {
-    frames_on(
-        image,
-        &[Record::Ask(5), Record::WithdrawSource(slot as i64)],
-    )
+    let leave = Record::WithdrawSource(slot as i64);
+    let fall = Record::WithdrawWall(STANDING);
+    frames_on(image, &[Record::Ask(5), leave, fall])
+}
+
+/// Probes of walls: those of the worked way placed and standing, alone, with another one and with
+/// both ends at one place, while the sums are anything and the source stands or not.
+fn wall_frames() -> Vec<Frame> {
+    let mut book = Book::cleared();
+    book.accounts[5] = Some(Account {
+        receiver: example_receiver(),
+        sums: [TOP, 0, FAINTEST],
+    });
+    let source = example_source().moved(110_000, 100_000);
+    let enter = Record::PlaceSource(0, source);
+    let mut frames = Vec::new();
+    for wall in WORKED_WALLS {
+        book.walls[0] = None;
+        book.sources[0] = Some(source);
+        let place = Record::PlaceWall(0, wall);
+        frames.extend(frames_on(&encode(&book), &[place, Record::WithdrawWall(0)]));
+        book.walls[0] = Some(wall);
+        let again = Record::PlaceWall(1, WORKED_WALLS[0]);
+        let leave = Record::WithdrawSource(0);
+        let calls = [again, place, Record::WithdrawWall(0), leave];
+        frames.extend(frames_on(&encode(&book), &calls));
+        book.sources[0] = None;
+        frames.extend(frames_on(&encode(&book), &[enter, again]));
+    }
+    for record in pointed_records() {
+        let mut image = encode(&book);
+        let values = record.values();
+        for (index, &value) in values[1..].iter().enumerate() {
+            set_field(&mut image, wall_at(0), &WALL_BYTES, index, value as u64);
+        }
+        frames.extend(frames_on(&image, &[Record::Ask(5)]));
+    }
+    frames
 }
 
 /// Probes of courses: sources between two ends placed and standing, and every byte that may say how
@@ -460,13 +668,13 @@ fn paired_frames() -> Vec<Frame> {
     for source in surfaced_sources() {
         add(&[(CAR_SPEED, source.car_speed), (SURFACE, source.surface)]);
     }
-    for walls in WALLS.least()..=WALLS.most() + 1 {
-        for height in WALL_HEIGHT.edges(WALL_HEIGHT.stored_bits()) {
-            for spacing in WALL_SPACING.edges(WALL_SPACING.stored_bits()) {
+    for parallel_walls in PARALLEL_WALLS.least()..=PARALLEL_WALLS.most() + 1 {
+        for height in PARALLEL_HEIGHT.edges(PARALLEL_HEIGHT.stored_bits()) {
+            for spacing in PARALLEL_SPACING.edges(PARALLEL_SPACING.stored_bits()) {
                 add(&[
-                    (WALLS, walls),
-                    (WALL_HEIGHT, height),
-                    (WALL_SPACING, spacing),
+                    (PARALLEL_WALLS, parallel_walls),
+                    (PARALLEL_HEIGHT, height),
+                    (PARALLEL_SPACING, spacing),
                 ]);
             }
         }
@@ -480,7 +688,8 @@ fn byte_frames() -> Vec<Frame> {
     let mut places = Vec::new();
     let sources = [0, 1, 4, SOURCES - 1].map(source_at);
     let receivers = [0, 5, 6, RECEIVERS - 1].map(receiver_at);
-    for mark in sources.into_iter().chain(receivers) {
+    let walls = [0, STANDING as usize, WALLS - 1].map(wall_at);
+    for mark in sources.into_iter().chain(receivers).chain(walls) {
         places.extend([0, 1, 2, 3, 127, 128, 255].map(|byte| (mark, byte)));
     }
     for slot_at in [1, SOURCES - 1].map(source_at) {
@@ -488,6 +697,9 @@ fn byte_frames() -> Vec<Frame> {
     }
     for slot_at in [0, RECEIVERS - 1].map(receiver_at) {
         places.extend((1..RECEIVER_SIZE).map(|at| (slot_at + at, 128)));
+    }
+    for slot_at in [0, WALLS - 1].map(wall_at) {
+        places.extend((1..WALL_SIZE).map(|at| (slot_at + at, 1)));
     }
     let frame = |(at, byte): (usize, u8)| {
         let mut image = example_image();
@@ -521,6 +733,7 @@ pub fn fixed_frames() -> Vec<Frame> {
     let mut frames = record_frames();
     frames.extend(field_frames());
     frames.extend(course_frames());
+    frames.extend(wall_frames());
     frames.extend(paired_frames());
     frames.extend(byte_frames());
     frames.extend(length_frames());

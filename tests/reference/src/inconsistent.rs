@@ -1,12 +1,14 @@
 // Stored states that are not damaged but that no history has, with the calls that meet this.
 // Also pairs just at the limits, where one step decides between two answers.
 
+use crate::aims::{loud_behind_a_wall, screened_pair, turning_ray, wall_before};
 use crate::book::{decode, mean_energy, Account, Book, TOP};
 use crate::chance::Chance;
 use crate::course::Course;
 use crate::cuts::{pair, receiver_beside, span, spanned};
 use crate::fields::{
     FARTHEST, HEIGHT, LENGTH, RECEIVERS, RECEIVER_SLOT, SOURCES, SOURCE_SLOT, TRUCKS, VEHICLES,
+    WALLS, WALL_SLOT,
 };
 use crate::fixed::example_receiver;
 use crate::level::{energy, level, FAINTEST};
@@ -22,10 +24,11 @@ use crate::road::{
 };
 use crate::stores::{fitting_record, frame_of, settled, slot_in};
 use crate::town::{placing, road, traffic, Town, WIDE};
+use crate::wall::Wall;
 
-/// What a source brings to a receiver; nothing where the pair is refused.
-fn heard_of(source: &Source, receiver: &Receiver) -> [i64; 3] {
-    shares(source, &emission(source), receiver).unwrap_or([0; 3])
+/// What a source brings to a receiver past the walls; nothing where the pair is refused.
+fn heard_of(source: &Source, receiver: &Receiver, walls: &[Wall]) -> [i64; 3] {
+    shares(source, &emission(source), receiver, walls).unwrap_or([0; 3])
 }
 
 /// Sums that leave room for a share more and a share less.
@@ -39,8 +42,9 @@ pub(crate) fn low_sum(chance: &mut Chance) -> Frame {
     let leaving = slot_in(chance, &book.sources, true);
     let source = book.sources[leaving].expect("the slot is in use");
     let odds = chance.between(1, 8);
+    let walls = book.standing_walls();
     for account in book.accounts.iter_mut().flatten() {
-        let shares = heard_of(&source, &account.receiver);
+        let shares = heard_of(&source, &account.receiver, &walls);
         let period = chance.index(3);
         if chance.one_in(odds) {
             account.sums[period] = (shares[period] + chance.pick(&[-1, 0, 0, 1])).max(0);
@@ -61,8 +65,9 @@ pub(crate) fn high_sum(chance: &mut Chance) -> Frame {
     let record = placing(chance, slot as i64, source);
     let source = record.source().expect("a source is placed");
     let at = slot_in(chance, &book.accounts, true);
+    let walls = book.standing_walls();
     if let Some(account) = &mut book.accounts[at] {
-        let shares = heard_of(&source, &account.receiver);
+        let shares = heard_of(&source, &account.receiver, &walls);
         let period = chance.index(3);
         let excess = chance.between(-1, 1).min(shares[period]);
         account.sums[period] = TOP - shares[period] + excess;
@@ -166,6 +171,157 @@ pub(crate) fn bad_pair(chance: &mut Chance) -> Frame {
     frame_of(&book, &record)
 }
 
+/// A pair that no history has, among others, and a call on a wall, which meets it unless another
+/// pair is refused before. The walls may be in the way of it.
+pub(crate) fn bad_pair_walled(chance: &mut Chance) -> Frame {
+    let frame = bad_pair(chance);
+    let Some(mut book) = decode(&frame.image) else {
+        return frame;
+    };
+    if chance.one_in(2) {
+        clear_most(chance, &mut book);
+    }
+    let town = Town::of_width(chance, WIDE);
+    for _ in 0..chance.between(0, 2) {
+        book.walls[chance.index(WALLS)] = Some(some_wall(chance, &book, &town));
+    }
+    let record = wall_call(chance, &book, &town);
+    frame_of(&book, &record)
+}
+
+/// Takes most sources out of a book, so that few pairs are left.
+fn clear_most(chance: &mut Chance, book: &mut Book) {
+    let odds = chance.between(2, 10);
+    for source in &mut book.sources {
+        if !chance.one_in(odds) {
+            *source = None;
+        }
+    }
+}
+
+/// A wall before a source and a receiver that stand, or anywhere in a town.
+fn some_wall(chance: &mut Chance, book: &Book, town: &Town) -> Wall {
+    let at = slot_in(chance, &book.accounts, true);
+    let source = book.sources[slot_in(chance, &book.sources, true)];
+    match (book.accounts[at], source) {
+        (Some(account), Some(source)) => wall_before(chance, &source.course, &account.receiver),
+        _ => town.wall(chance),
+    }
+}
+
+/// A call on a wall that mostly finds its slot as it needs it.
+pub(crate) fn wall_call(chance: &mut Chance, book: &Book, town: &Town) -> Record {
+    let fits = !chance.one_in(8);
+    let leaves = chance.one_in(2) && book.walls.iter().any(Option::is_some);
+    let slot = slot_in(chance, &book.walls, leaves == fits) as i64;
+    match leaves {
+        true => Record::WithdrawWall(slot),
+        false => Record::PlaceWall(slot, some_wall(chance, book, town)),
+    }
+}
+
+/// Receivers, sources and walls aimed between them, of which any may be barred: by two walls, by
+/// their distance or as too loud; sums that are right, or anything; and a call on any of them.
+pub(crate) fn screened(chance: &mut Chance) -> Frame {
+    let (receiver, source) = screened_pair(chance);
+    let mut book = Book::cleared();
+    let sums = ample(chance);
+    let (r, s) = (chance.edge_in(&RECEIVER_SLOT), chance.edge_in(&SOURCE_SLOT));
+    book.accounts[r as usize] = Some(Account { receiver, sums });
+    let place = placing(chance, s, source);
+    book.sources[s as usize] = place.source();
+    for _ in 0..chance.pick(&[0, 1, 1, 2, 2, 3]) {
+        let wall = wall_before(chance, &source.course, &receiver);
+        book.walls[chance.edge_in(&WALL_SLOT) as usize] = Some(wall);
+    }
+    if chance.one_in(3) {
+        add_neighbours(chance, &mut book, &receiver, &source);
+    }
+    let town = Town::of_width(chance, WIDE);
+    let record = match chance.between(0, 5) {
+        0 => {
+            book.accounts[r as usize] = None;
+            Record::PlaceReceiver(r, receiver)
+        }
+        1 => {
+            book.sources[s as usize] = None;
+            place
+        }
+        2 => Record::WithdrawSource(s),
+        _ => wall_call(chance, &book, &town),
+    };
+    frame_of(&book, &record)
+}
+
+/// The same with sums just enough, or just not, for what a source brings past the walls.
+pub(crate) fn screened_sums(chance: &mut Chance) -> Frame {
+    let frame = screened(chance);
+    match decode(&frame.image) {
+        Some(book) => tight_sums(chance, book, frame),
+        None => frame,
+    }
+}
+
+/// Adds receivers beside one and sources beside another, so that a call meets more than one pair.
+fn add_neighbours(chance: &mut Chance, book: &mut Book, receiver: &Receiver, source: &Source) {
+    for _ in 0..chance.between(1, 3) {
+        let mut beside = *receiver;
+        beside.x = (beside.x + chance.between(-3000, 3000)).clamp(0, FARTHEST);
+        book.accounts[chance.index(RECEIVERS)] = Some(Account {
+            receiver: beside,
+            sums: ample(chance),
+        });
+        let middle = source.course.middle();
+        let (dx, dy) = (chance.between(-3000, 3000), chance.between(-3000, 3000));
+        let other = source.moved(middle.x + dx, middle.y + dy);
+        book.sources[chance.index(SOURCES)] = Some(on_the_map(other));
+    }
+}
+
+/// A source and a receiver so far apart that the rule turns by which a ray bends, and a wall that
+/// comes between them or stands there while one of them comes.
+pub(crate) fn turning(chance: &mut Chance) -> Frame {
+    let (receiver, source, wall) = turning_ray(chance);
+    let (r, s) = (chance.edge_in(&RECEIVER_SLOT), chance.edge_in(&SOURCE_SLOT));
+    let w = chance.edge_in(&WALL_SLOT);
+    let mut book = Book::cleared();
+    let mut records = vec![
+        Record::PlaceReceiver(r, receiver),
+        placing(chance, s, source),
+        Record::PlaceWall(w, wall),
+    ];
+    let last = records.remove(chance.index(3));
+    for record in records {
+        book.apply(&record);
+    }
+    frame_of(&book, &last)
+}
+
+/// A source that is too loud without the wall before it, and the call that takes the wall away, or
+/// one that brings it.
+pub(crate) fn loud_walled(chance: &mut Chance) -> Frame {
+    let (receiver, source, wall) = loud_behind_a_wall(chance);
+    let mut book = Book::cleared();
+    let (r, s) = (chance.edge_in(&RECEIVER_SLOT), chance.edge_in(&SOURCE_SLOT));
+    let w = chance.edge_in(&WALL_SLOT);
+    let sums = ample(chance);
+    book.accounts[r as usize] = Some(Account { receiver, sums });
+    book.sources[s as usize] = Some(source);
+    let record = match chance.between(0, 4) {
+        0 => {
+            book.sources[s as usize] = None;
+            Record::PlaceSource(s, source)
+        }
+        1 => Record::WithdrawSource(s),
+        2 => Record::PlaceWall(w, wall),
+        _ => Record::WithdrawWall(w),
+    };
+    if record.kind() != Record::PlaceWall(w, wall).kind() {
+        book.walls[w as usize] = Some(wall);
+    }
+    frame_of(&book, &record)
+}
+
 /// A new source that meets a few receivers, of which some may refuse it.
 pub(crate) fn met_by_source(chance: &mut Chance) -> Frame {
     let source = meeting_road(chance);
@@ -260,8 +416,10 @@ fn tight_sums(chance: &mut Chance, mut book: Book, frame: Frame) -> Frame {
         Record::WithdrawSource(slot) => (book.sources[slot as usize], false),
         _ => (record.source(), true),
     };
+    let walls = book.standing_walls();
     for account in book.accounts.iter_mut().flatten() {
-        let shares = source.map_or([0; 3], |source| heard_of(&source, &account.receiver));
+        let heard = |source: Source| heard_of(&source, &account.receiver, &walls);
+        let shares = source.map_or([0; 3], heard);
         let period = chance.index(3);
         let share = shares[period] + chance.pick(&[-1, -1, 0, 1]);
         account.sums[period] = if most { TOP - share } else { share }.clamp(0, TOP);

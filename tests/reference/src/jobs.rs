@@ -1,11 +1,13 @@
 // Jobs by chance, of many kinds: towns, jobs tight against each limit, broken jobs.
 // A seed stands for one job; its remainder by the number of kinds says which kind it is.
 
+use crate::aims::{loud_behind_a_wall, screened_pair, wall_before};
 use crate::chance::Chance;
 use crate::cuts::{corner_roads, receiver_beside, stretched_roads, MAKERS};
 use crate::daily::Daily;
 use crate::fields::{
     widest, CLASS, DTV, FARTHEST, HEIGHT, LENGTH, RECEIVERS, RECEIVER_SLOT, SOURCES, SOURCE_SLOT,
+    WALL_SLOT,
 };
 use crate::fixed::{example_receiver, one_of_each, with_ends};
 use crate::limits::{
@@ -22,9 +24,32 @@ use crate::town::{any_road, by_day, placing, road, traffic, Draft, Town, WIDE};
 /// What makes one kind of job.
 type Maker = fn(&mut Chance) -> Vec<u8>;
 
-const KINDS: [Maker; 21] = [
-    town, churn, crowd, late, near, far, long, cut, cut_late, ends, loud, faint, fields, terms,
-    sweep, daily, twins, flipped, leftover, unknown, noise,
+const KINDS: [Maker; 25] = [
+    town,
+    churn,
+    crowd,
+    late,
+    near,
+    far,
+    long,
+    cut,
+    cut_late,
+    ends,
+    loud,
+    faint,
+    fields,
+    terms,
+    sweep,
+    daily,
+    twins,
+    flipped,
+    leftover,
+    unknown,
+    noise,
+    screened,
+    screened,
+    walled_town,
+    loud_walled,
 ];
 
 /// The job a seed stands for.
@@ -91,7 +116,11 @@ fn crowd(chance: &mut Chance) -> Vec<u8> {
     }
     draft.ask_all(chance);
     for _ in 0..chance.between(0, 200) {
-        draft.put(town.record(chance, SOURCES, RECEIVERS));
+        draft.put(town.road_record(chance, SOURCES, RECEIVERS));
+    }
+    draft.ask_all(chance);
+    for _ in 0..chance.between(0, 2) {
+        draft.put(town.wall_record(chance));
     }
     draft.ask_all(chance);
     draft.bytes
@@ -281,6 +310,96 @@ fn ends(chance: &mut Chance) -> Vec<u8> {
     draft.bytes
 }
 
+/// Records in any order.
+fn shuffled(chance: &mut Chance, mut records: Vec<Record>) -> Vec<Record> {
+    for at in (1..records.len()).rev() {
+        records.swap(at, chance.index(at + 1));
+    }
+    records
+}
+
+/// Puts records in any order, and asks a receiver after each.
+fn put_shuffled(draft: &mut Draft, chance: &mut Chance, records: Vec<Record>, asked: i64) {
+    for record in shuffled(chance, records) {
+        draft.put(record);
+        draft.put(Record::Ask(asked));
+    }
+}
+
+/// A receiver, a source and walls aimed between them, which come and go in any order.
+fn screened(chance: &mut Chance) -> Vec<u8> {
+    let mut draft = Draft::default();
+    for _ in 0..20 {
+        let (receiver, source) = screened_pair(chance);
+        let (r, s) = (chance.edge_in(&RECEIVER_SLOT), chance.edge_in(&SOURCE_SLOT));
+        let mut come = vec![
+            Record::PlaceReceiver(r, receiver),
+            placing(chance, s, source),
+        ];
+        let mut go = vec![Record::WithdrawReceiver(r), Record::WithdrawSource(s)];
+        for _ in 0..chance.pick(&[1, 1, 2, 2, 3]) {
+            let slot = chance.edge_in(&WALL_SLOT);
+            let wall = wall_before(chance, &source.course, &receiver);
+            come.push(Record::PlaceWall(slot, wall));
+            go.push(Record::WithdrawWall(slot));
+        }
+        put_shuffled(&mut draft, chance, come, r);
+        put_shuffled(&mut draft, chance, go, r);
+    }
+    draft.bytes
+}
+
+/// A town with few roads and receivers, in which walls are aimed between any two of them.
+fn walled_town(chance: &mut Chance) -> Vec<u8> {
+    let width = chance.pick(&[10_000, 40_000, WIDE]);
+    let town = Town::of_width(chance, width);
+    let mut draft = Draft::default();
+    for _ in 0..chance.between(40, 300) {
+        let record = match chance.between(0, 3) {
+            0 => wall_in(chance, &town, &draft),
+            1 => Record::Ask(chance.between(0, 7)),
+            _ => town.record(chance, 20, 8),
+        };
+        draft.put(record);
+    }
+    draft.ask_all(chance);
+    draft.bytes
+}
+
+/// A record that places a wall between a road and a receiver that stand, or anywhere.
+fn wall_in(chance: &mut Chance, town: &Town, draft: &Draft) -> Record {
+    let account = draft.book.accounts[chance.index(8)];
+    let source = draft.book.sources[chance.index(20)];
+    let wall = match (account, source) {
+        (Some(account), Some(source)) => wall_before(chance, &source.course, &account.receiver),
+        _ => town.wall(chance),
+    };
+    Record::PlaceWall(chance.between(0, 5), wall)
+}
+
+/// Roads that are too loud without a wall which takes enough, or just not: without the wall they
+/// cannot come, and while they stand it cannot go.
+fn loud_walled(chance: &mut Chance) -> Vec<u8> {
+    let mut draft = Draft::default();
+    for _ in 0..30 {
+        let (receiver, source, wall) = loud_behind_a_wall(chance);
+        let (r, s) = (chance.edge_in(&RECEIVER_SLOT), chance.edge_in(&SOURCE_SLOT));
+        let w = chance.edge_in(&WALL_SLOT);
+        draft.put(Record::PlaceWall(w, wall));
+        draft.put(Record::PlaceReceiver(r, receiver));
+        draft.put(Record::PlaceSource(s, source));
+        draft.put(Record::Ask(r));
+        let go = vec![
+            Record::WithdrawWall(w),
+            Record::WithdrawSource(s),
+            Record::WithdrawReceiver(r),
+        ];
+        put_shuffled(&mut draft, chance, go, r);
+        draft.put(Record::WithdrawWall(w));
+    }
+    draft.bytes
+}
+
 /// A receiver and a way to a source, from the nearest to the given distance.
 fn some_way(chance: &mut Chance, farthest: i64) -> (Receiver, Way) {
     let way = Way {
@@ -353,7 +472,7 @@ fn faint(chance: &mut Chance) -> Vec<u8> {
     draft.bytes
 }
 
-/// Every field at its limits and one step beyond, of sources and of receivers.
+/// Every field at its limits and one step beyond, of sources, of receivers and of walls.
 fn fields(chance: &mut Chance) -> Vec<u8> {
     let mut draft = Draft::default();
     let (receiver, way) = some_way(chance, 20_000);
@@ -375,6 +494,12 @@ fn fields(chance: &mut Chance) -> Vec<u8> {
     for field in &other.fields()[1..] {
         for value in trial_values(chance, field, field.bits) {
             try_receiver(&mut draft, other.with(field, value));
+        }
+    }
+    let wall = Record::PlaceWall(2, wall_before(chance, &source.course, &receiver));
+    for field in &wall.fields()[1..] {
+        for value in trial_values(chance, field, field.bits) {
+            try_wall(&mut draft, wall.with(field, value));
         }
     }
     try_slots(&mut draft, chance);
@@ -403,6 +528,13 @@ fn try_receiver(draft: &mut Draft, place: Record) {
     draft.put(place);
     draft.put(Record::Ask(place.slot()));
     draft.put(Record::WithdrawReceiver(place.slot()));
+}
+
+/// Places a wall that may not be allowed, asks the first receiver and takes it away.
+fn try_wall(draft: &mut Draft, place: Record) {
+    draft.put(place);
+    draft.put(Record::Ask(0));
+    draft.put(Record::WithdrawWall(place.slot()));
 }
 
 /// One road after the other before one receiver, each with every field anew.

@@ -1,6 +1,7 @@
 // The reference of the road-noise book: the rules worked a second time, in plain Rust.
 // It exists to be compared with the book itself, so nothing here is shared with it.
 
+pub mod aims;
 pub mod book;
 pub mod chance;
 pub mod compare;
@@ -27,4 +28,5 @@ pub mod sheets;
 pub mod store;
 pub mod stores;
 pub mod town;
+pub mod wall;
 pub mod writing;

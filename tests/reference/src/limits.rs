@@ -154,18 +154,18 @@ pub fn loud_road(chance: &mut Chance) -> Source {
         truck_speed: chance.between(60, TRUCK_SPEED.most()),
         surface: FAST_SURFACE - 1,
         gradient: chance.pick(&[STEEPEST, MINUS + STEEPEST]),
-        walls: 1,
-        wall_height: 2000,
-        wall_spacing: 1500,
+        parallel_walls: 1,
+        parallel_height: 2000,
+        parallel_spacing: 1500,
         traffic: [Traffic::default(); 3],
         reflection: REFLECTION.least(),
     }
 }
 
-/// The share levels of an uncut source.
+/// The share levels of an uncut source without walls.
 pub fn uncut_levels(source: &Source, receiver: &Receiver) -> PeriodLevels {
     let piece = Piece::new(source.course.middle(), source.course.length(), receiver);
-    heard(&emission(source), &piece, receiver)
+    heard(&emission(source), &piece, receiver, 0)
 }
 
 /// The share level of one period with the given traffic; none without any.
@@ -186,7 +186,7 @@ pub fn tuned_share(source: &Source, receiver: &Receiver, period: usize, share: i
     let enough = |vehicles| {
         let mut source = *source;
         source.traffic[period].vehicles = vehicles;
-        let shares = brought(&source, &emission(&source), receiver);
+        let shares = brought(&source, &emission(&source), receiver, &[]);
         shares.is_ok_and(|shares| shares[period] >= share)
     };
     least(VEHICLES.most(), enough)

@@ -3,6 +3,7 @@
 
 use crate::book::{Answer, Book};
 use crate::record::{kind_in, length_of, read, Record};
+use crate::road::NUMBERS;
 use std::io::Write;
 
 /// What a job was made of and met: records tried, asks answered, each refusal's count.
@@ -10,7 +11,7 @@ use std::io::Write;
 pub struct Tally {
     pub records: u64,
     pub asks: u64,
-    pub refusals: [u64; 14],
+    pub refusals: [u64; NUMBERS],
 }
 
 impl Tally {

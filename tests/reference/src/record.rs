@@ -5,9 +5,10 @@ use crate::course::Course;
 use crate::daily::{judge_daily, Daily};
 use crate::fields::{
     Field, BETWEEN_COURSE, BETWEEN_FIELDS, COMMON_FIELDS, DAILY_FIELDS, RECEIVER_FIELDS,
-    RECEIVER_SLOT, SOURCE_FIELDS, SOURCE_SLOT, UNCUT_COURSE,
+    RECEIVER_SLOT, SOURCE_FIELDS, SOURCE_SLOT, UNCUT_COURSE, WALL_FIELDS, WALL_SLOT,
 };
 use crate::road::{judge_receiver, judge_source, judge_value, refusal, Receiver, Refusal, Source};
+use crate::wall::{judge_wall, Wall};
 
 /// One record of a job, each with its slot. Where a source runs says of which kind its record is.
 #[derive(Clone, Copy, Debug, PartialEq, Eq)]
@@ -18,6 +19,8 @@ pub enum Record {
     WithdrawSource(i64),
     Ask(i64),
     PlaceDaily(i64, Daily),
+    PlaceWall(i64, Wall),
+    WithdrawWall(i64),
 }
 
 /// Bits of the kind that begins every record, and the kinds that they can say.
@@ -46,6 +49,8 @@ pub fn fields_of(kind: u8) -> Option<&'static [Field]> {
         4 => Some(&SOURCE_FIELDS[..1]),
         6 => Some(&DAILY_FIELDS),
         7 => Some(&BETWEEN_FIELDS),
+        8 => Some(&WALL_FIELDS),
+        9 => Some(&WALL_FIELDS[..1]),
         _ => None,
     }
 }
@@ -98,6 +103,8 @@ impl Record {
             Record::WithdrawSource(_) => 4,
             Record::Ask(_) => 5,
             Record::PlaceDaily(..) => 6,
+            Record::PlaceWall(..) => 8,
+            Record::WithdrawWall(_) => 9,
         }
     }
 
@@ -122,6 +129,10 @@ impl Record {
                 judge_value(*slot, &RECEIVER_SLOT)
             }
             Record::WithdrawSource(slot) => judge_value(*slot, &SOURCE_SLOT),
+            Record::PlaceWall(slot, wall) => {
+                judge_value(*slot, &WALL_SLOT).and_then(|()| judge_wall(wall))
+            }
+            Record::WithdrawWall(slot) => judge_value(*slot, &WALL_SLOT),
         }
     }
 
@@ -130,10 +141,12 @@ impl Record {
         match self {
             Record::PlaceReceiver(slot, _)
             | Record::PlaceSource(slot, _)
-            | Record::PlaceDaily(slot, _) => *slot,
-            Record::WithdrawReceiver(slot) | Record::WithdrawSource(slot) | Record::Ask(slot) => {
-                *slot
-            }
+            | Record::PlaceDaily(slot, _)
+            | Record::PlaceWall(slot, _) => *slot,
+            Record::WithdrawReceiver(slot)
+            | Record::WithdrawSource(slot)
+            | Record::Ask(slot)
+            | Record::WithdrawWall(slot) => *slot,
         }
     }
 
@@ -153,6 +166,7 @@ impl Record {
             Record::PlaceReceiver(_, receiver) => values.extend(receiver.fields()),
             Record::PlaceSource(_, source) => values.extend(source.fields()),
             Record::PlaceDaily(_, daily) => values.extend(daily.fields()),
+            Record::PlaceWall(_, wall) => values.extend(wall.fields()),
             _ => {}
         }
         values
@@ -201,6 +215,12 @@ impl Record {
                 let [x1, y1, x2, y2] = each(&BETWEEN_COURSE, &mut value);
                 placed(slot, Course::between(x1, y1, x2, y2), value)
             }
+            8 => {
+                let slot = value(&WALL_SLOT);
+                let fields = each(&WALL_FIELDS[1..], &mut value);
+                Record::PlaceWall(slot, Wall::of_fields(fields))
+            }
+            9 => Record::WithdrawWall(value(&WALL_SLOT)),
             _ => Record::Ask(value(&RECEIVER_SLOT)),
         }
     }

@@ -4,6 +4,7 @@
 use crate::course::{cut, Course, Piece, Point};
 use crate::fields::{Field, COMMON_FIELDS, LENGTH, MINUS, RECEIVER_FIELDS};
 use crate::level::{energy, lv, FAINTEST, STEPS};
+use crate::wall::{screening, Wall, CROWDED};
 
 /// A number for the caller, with the field or slot it speaks of (0 where there is none).
 #[derive(Clone, Copy, Debug, PartialEq, Eq)]
@@ -11,6 +12,9 @@ pub struct Refusal {
     pub number: u8,
     pub place: u16,
 }
+
+/// The numbers that there are, 0 for what is done among them.
+pub const NUMBERS: usize = 15;
 
 /// A refusal that names no field and no slot.
 pub const fn refusal(number: u8) -> Refusal {
@@ -34,9 +38,9 @@ pub struct Source {
     pub surface: i64,
     pub gradient: i64,
     pub reflection: i64,
-    pub walls: i64,
-    pub wall_height: i64,
-    pub wall_spacing: i64,
+    pub parallel_walls: i64,
+    pub parallel_height: i64,
+    pub parallel_spacing: i64,
     pub traffic: [Traffic; 3],
 }
 
@@ -109,9 +113,9 @@ impl Source {
             self.surface,
             self.gradient,
             self.reflection,
-            self.walls,
-            self.wall_height,
-            self.wall_spacing,
+            self.parallel_walls,
+            self.parallel_height,
+            self.parallel_spacing,
             day.vehicles,
             day.trucks,
             evening.vehicles,
@@ -135,9 +139,9 @@ impl Source {
             surface: f[3],
             gradient: f[4],
             reflection: f[5],
-            walls: f[6],
-            wall_height: f[7],
-            wall_spacing: f[8],
+            parallel_walls: f[6],
+            parallel_height: f[7],
+            parallel_spacing: f[8],
             traffic: [period(9), period(11), period(13)],
         }
     }
@@ -163,9 +167,9 @@ impl Source {
         self.truck_speed.clamp(TRUCK_SPEEDS.0, TRUCK_SPEEDS.1)
     }
 
-    /// Whether a field may have a value; without walls their sizes are 0.
+    /// Whether a field may have a value; without parallel walls their sizes are 0.
     pub fn allows(&self, field: &Field, value: i64) -> bool {
-        if self.walls == 0 && field.of_walls() {
+        if self.parallel_walls == 0 && field.of_parallel_walls() {
             value == 0
         } else {
             field.allows(value)
@@ -179,13 +183,20 @@ impl Receiver {
         [self.x, self.y, self.height]
     }
 
+    /// Its place on the map.
+    pub fn place(&self) -> Point {
+        let (x, y) = (self.x, self.y);
+        Point { x, y }
+    }
+
     /// A receiver from its fields 2 to 4.
     pub fn of_fields([x, y, height]: [i64; 3]) -> Receiver {
         Receiver { x, y, height }
     }
 }
 
-fn wrong_field(place: u16) -> Refusal {
+/// The refusal of a field that is not allowed.
+pub const fn wrong_field(place: u16) -> Refusal {
     Refusal { number: 5, place }
 }
 
@@ -290,9 +301,9 @@ pub fn gradient_term(code: i64) -> i64 {
 }
 
 /// The addition for parallel walls.
-pub fn wall_term(source: &Source) -> i64 {
-    let (height, spacing) = (source.wall_height, source.wall_spacing);
-    match source.walls {
+pub fn parallel_term(source: &Source) -> i64 {
+    let (height, spacing) = (source.parallel_height, source.parallel_spacing);
+    match source.parallel_walls {
         1 => (400 * height).div_euclid(spacing).min(320),
         2 => (200 * height).div_euclid(spacing).min(160),
         _ => 0,
@@ -351,7 +362,7 @@ pub fn emission(source: &Source) -> PeriodLevels {
         + gradient_term(source.gradient)
         + REFLECTIONS[source.reflection as usize]
         + length
-        + wall_term(source);
+        + parallel_term(source);
     source.traffic.map(|traffic| {
         let l25 = traffic_term(traffic, source.several_lanes == 1)?;
         Some(l25 + speed_term(car, excess, traffic.trucks) + fixed)
@@ -369,11 +380,17 @@ fn judge_distance(piece: &Piece) -> Result<(), u8> {
     Ok(())
 }
 
-/// What is left at a receiver of the levels that a piece sends out, for the three periods.
-pub fn heard(sent: &PeriodLevels, piece: &Piece, receiver: &Receiver) -> PeriodLevels {
+/// What is left at a receiver of the levels that a piece sends out, for the three periods. Ground
+/// and wall do not both take of it, but the one that takes more.
+pub fn heard(
+    sent: &PeriodLevels,
+    piece: &Piece,
+    receiver: &Receiver,
+    screened: i64,
+) -> PeriodLevels {
     let heights = receiver.height + SOURCE_HEIGHT;
     let far = root(piece.in_space);
-    let lost = distance_term(piece.in_space, far) + ground_term(heights, far);
+    let lost = distance_term(piece.in_space, far) + ground_term(heights, far).max(screened);
     let map_way = root(piece.on_map);
     std::array::from_fn(|period| {
         let weather = weather_term(WEATHER[period], heights, map_way);
@@ -391,49 +408,75 @@ fn share(level: Option<i64>) -> i64 {
     }
 }
 
-/// What an uncut source brings to a receiver, however loud; or refusal 10, 11 or 12.
-fn whole(sent: &PeriodLevels, piece: &Piece, receiver: &Receiver) -> Result<Shares, u8> {
+/// What an uncut source brings to a receiver, however loud; or refusal 10, 11, 12 or 14.
+fn whole(
+    sent: &PeriodLevels,
+    piece: &Piece,
+    receiver: &Receiver,
+    walls: &[Wall],
+) -> Result<Shares, u8> {
     judge_distance(piece)?;
     if piece.is_long() {
         return Err(12);
     }
-    Ok(heard(sent, piece, receiver).map(share))
+    let screened = screening(piece, receiver, walls)?;
+    Ok(heard(sent, piece, receiver, screened).map(share))
 }
 
 /// What the pieces between two ends bring to a receiver, however loud; or refusal 10 or 11 of the
-/// first piece that has one.
+/// first piece that has one; or 14 where no piece has these and one has more than one wall.
 fn summed(
     sent: &PeriodLevels,
-    first: Point,
-    second: Point,
+    (first, second): (Point, Point),
     receiver: &Receiver,
+    walls: &[Wall],
 ) -> Result<Shares, u8> {
     let mut sums = [0; 3];
+    let mut crowded = false;
     cut(first, second, receiver, &mut |piece| {
         judge_distance(piece)?;
+        let Ok(screened) = screening(piece, receiver, walls) else {
+            crowded = true;
+            return Ok(());
+        };
         let length = length_term(piece.length);
-        let levels = heard(sent, piece, receiver);
+        let levels = heard(sent, piece, receiver, screened);
         for (sum, level) in sums.iter_mut().zip(levels) {
             *sum += share(level.map(|level| level + length));
         }
         Ok(())
     })?;
+    if crowded {
+        return Err(CROWDED);
+    }
     Ok(sums)
 }
 
-/// What a source brings to a receiver, however loud, or refusal 10, 11 or 12 of the pair.
-pub fn brought(source: &Source, sent: &PeriodLevels, receiver: &Receiver) -> Result<Shares, u8> {
+/// What a source brings to a receiver past the walls, however loud, or refusal 10, 11, 12 or 14 of
+/// the pair.
+pub fn brought(
+    source: &Source,
+    sent: &PeriodLevels,
+    receiver: &Receiver,
+    walls: &[Wall],
+) -> Result<Shares, u8> {
     match source.course {
         Course::Uncut { middle, length } => {
-            whole(sent, &Piece::new(middle, length, receiver), receiver)
+            let piece = Piece::new(middle, length, receiver);
+            whole(sent, &piece, receiver, walls)
         }
-        Course::Between { first, second } => summed(sent, first, second, receiver),
+        Course::Between { first, second } => summed(sent, (first, second), receiver, walls),
     }
 }
 
-/// What a source brings to a receiver, or the refusal of the pair, 10 to 13.
-pub fn shares(source: &Source, sent: &PeriodLevels, receiver: &Receiver) -> Result<Shares, u8> {
-    let shares = brought(source, sent, receiver)?;
+/// What a source brings to a receiver past the walls, or the refusal of the pair, 10 to 14.
+pub fn shares(
+    source: &Source,
+    sent: &PeriodLevels,
+    receiver: &Receiver,
+    walls: &[Wall],
+) -> Result<Shares, u8> {
+    let shares = brought(source, sent, receiver, walls)?;
     if shares.iter().any(|&share| share > GREATEST_SHARE) {
         return Err(13);
     }

@@ -5,9 +5,10 @@ use crate::book::{Account, Book, TOP};
 use crate::course::Course;
 use crate::fields::{
     field, joined, Field, BETWEEN_COURSE, COMMON_FIELDS, HEIGHT, RECEIVERS, RECEIVER_FIELDS,
-    SOURCES, UNCUT_COURSE, X, Y,
+    SOURCES, UNCUT_COURSE, WALLS, WALL_ENDS, WALL_FIELDS, WALL_HEIGHT, X, Y,
 };
 use crate::road::{judge_receiver, judge_source, Receiver, Source};
+use crate::wall::{judge_wall, Wall};
 
 /// Bytes of the use mark that begins every slot, and of each sum.
 const MARK: usize = 1;
@@ -31,14 +32,20 @@ pub const SOURCE_BYTES: [usize; UNCUT_SLOT.len()] = bytes_of(&UNCUT_SLOT);
 /// Bytes of each field of a receiver slot after its use mark: the place, then the sums.
 pub const RECEIVER_BYTES: [usize; 6] = [X.bytes(), Y.bytes(), HEIGHT.bytes(), SUM, SUM, SUM];
 
+/// The fields of a wall slot after its use mark, and the bytes of each.
+static WALL_SLOT_FIELDS: [Field; 5] = joined(&[&WALL_ENDS, &[WALL_HEIGHT]]);
+pub const WALL_BYTES: [usize; WALL_SLOT_FIELDS.len()] = bytes_of(&WALL_SLOT_FIELDS);
+
 /// Where the first sum is among the fields of a receiver slot.
 pub const SUMS: usize = RECEIVER_FIELDS.len() - 1;
 
-/// Bytes of a slot of either kind, and of the whole.
+/// Bytes of a slot of each kind, where the first of them begins, and bytes of the whole.
 pub const SOURCE_SIZE: usize = MARK + total(&SOURCE_BYTES);
 pub const RECEIVER_SIZE: usize = MARK + total(&RECEIVER_BYTES);
 pub const RECEIVERS_AT: usize = SOURCES * SOURCE_SIZE;
-pub const STORE_SIZE: usize = RECEIVERS_AT + RECEIVERS * RECEIVER_SIZE;
+pub const WALL_SIZE: usize = MARK + total(&WALL_BYTES);
+pub const WALLS_AT: usize = RECEIVERS_AT + RECEIVERS * RECEIVER_SIZE;
+pub const STORE_SIZE: usize = WALLS_AT + WALLS * WALL_SIZE;
 
 /// Where a source slot begins.
 pub const fn source_at(slot: usize) -> usize {
@@ -48,6 +55,11 @@ pub const fn source_at(slot: usize) -> usize {
 /// Where a receiver slot begins.
 pub const fn receiver_at(slot: usize) -> usize {
     RECEIVERS_AT + slot * RECEIVER_SIZE
+}
+
+/// Where a wall slot begins.
+pub const fn wall_at(slot: usize) -> usize {
+    WALLS_AT + slot * WALL_SIZE
 }
 
 /// Bytes of the fields of a table.
@@ -149,14 +161,25 @@ fn decode_account(slot: &[u8]) -> Option<Account> {
     })
 }
 
+/// The wall of a slot as it is, without judging its fields.
+pub fn take_wall(slot: &[u8]) -> Wall {
+    Wall::of_fields(unpack(slot, &WALL_BYTES).map(|field| field as i64))
+}
+
+fn decode_wall(slot: &[u8]) -> Option<Wall> {
+    Some(take_wall(slot)).filter(|wall| judge_wall(wall).is_ok())
+}
+
 /// The book of a stored state; none if the stored state is damaged.
 pub fn decode(image: &[u8]) -> Option<Book> {
     if image.len() != STORE_SIZE {
         return None;
     }
-    let (sources, receivers) = image.split_at(RECEIVERS_AT);
+    let (sources, others) = image.split_at(RECEIVERS_AT);
+    let (receivers, walls) = others.split_at(WALLS_AT - RECEIVERS_AT);
     let sources = sources.chunks_exact(SOURCE_SIZE);
     let receivers = receivers.chunks_exact(RECEIVER_SIZE);
+    let walls = walls.chunks_exact(WALL_SIZE);
     Some(Book {
         sources: sources
             .map(|slot| decode_slot(slot, decode_source))
@@ -164,13 +187,17 @@ pub fn decode(image: &[u8]) -> Option<Book> {
         accounts: receivers
             .map(|slot| decode_slot(slot, decode_account))
             .collect::<Option<_>>()?,
+        walls: walls
+            .map(|slot| decode_slot(slot, decode_wall))
+            .collect::<Option<_>>()?,
     })
 }
 
 /// The stored state of a book.
 pub fn encode(book: &Book) -> Vec<u8> {
     let mut image = vec![0; STORE_SIZE];
-    let (sources, receivers) = image.split_at_mut(RECEIVERS_AT);
+    let (sources, others) = image.split_at_mut(RECEIVERS_AT);
+    let (receivers, walls) = others.split_at_mut(WALLS_AT - RECEIVERS_AT);
     let source_slots = sources.chunks_exact_mut(SOURCE_SIZE);
     for (slot, source) in source_slots.zip(&book.sources) {
         if let Some(source) = source {
@@ -185,6 +212,12 @@ pub fn encode(book: &Book) -> Vec<u8> {
             pack(slot, &fields, &RECEIVER_BYTES);
         }
     }
+    let wall_slots = walls.chunks_exact_mut(WALL_SIZE);
+    for (slot, wall) in wall_slots.zip(&book.walls) {
+        if let Some(wall) = wall {
+            pack(slot, &wall.fields(), &WALL_BYTES);
+        }
+    }
     image
 }
 
@@ -197,6 +230,11 @@ pub fn source_index(field: &Field) -> usize {
 /// Where a field is among those of a receiver slot.
 pub fn receiver_index(field: &Field) -> usize {
     field.index_in(&RECEIVER_FIELDS[1..])
+}
+
+/// Where a field is among those of a wall slot.
+pub fn wall_index(field: &Field) -> usize {
+    field.index_in(&WALL_FIELDS[1..])
 }
 
 /// Where a field of a slot begins, given where the slot is and the widths of its fields.

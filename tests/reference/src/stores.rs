@@ -6,29 +6,33 @@ use crate::chance::Chance;
 use crate::course::Course;
 use crate::cuts::stretched_roads;
 use crate::fields::{
-    Field, CAR_SPEED, FARTHEST, HEIGHT, LENGTH, RECEIVERS, RECEIVER_FIELDS, RECEIVER_SLOT,
-    REFLECTION, SOURCES, SOURCE_SLOT, SURFACE, WALLS, WALL_HEIGHT, WALL_SPACING,
+    Field, CAR_SPEED, FARTHEST, HEIGHT, LENGTH, PARALLEL_HEIGHT, PARALLEL_SPACING, PARALLEL_WALLS,
+    RECEIVERS, RECEIVER_FIELDS, RECEIVER_SLOT, REFLECTION, SOURCES, SOURCE_SLOT, SURFACE,
+    WALL_FIELDS, WALL_HEIGHT, WALL_SLOT,
 };
 use crate::fixed::sum_edges;
 use crate::inconsistent::{
-    asked, bad_pair, barely_asked, cut_pair, faint_level, high_sum, low_sum, met_by_receiver,
-    met_by_source, tight_level, tight_square,
+    asked, bad_pair, bad_pair_walled, barely_asked, cut_pair, faint_level, high_sum, loud_walled,
+    low_sum, met_by_receiver, met_by_source, screened, screened_sums, tight_level, tight_square,
+    turning, wall_call,
 };
 use crate::limits::trial_value;
 use crate::probe::{Frame, LONGEST_IMAGE, LONGEST_PIECE};
 use crate::record::{kind_byte, unlisted_kinds, Record};
 use crate::road::{Source, FAST_ABOVE, FAST_SURFACE};
 use crate::store::{
-    receiver_at, receiver_index, set_field, source_at, source_index, BETWEEN_SLOT, RECEIVERS_AT,
-    RECEIVER_BYTES, RECEIVER_SIZE, SOURCE_BYTES, SOURCE_SIZE, STORE_SIZE, SUMS, UNCUT_SLOT,
+    receiver_at, receiver_index, set_field, source_at, source_index, wall_at, wall_index,
+    BETWEEN_SLOT, RECEIVERS_AT, RECEIVER_BYTES, RECEIVER_SIZE, SOURCE_BYTES, SOURCE_SIZE,
+    STORE_SIZE, SUMS, UNCUT_SLOT, WALL_BYTES, WALL_SIZE,
 };
 use crate::town::{Town, WIDE};
+use crate::wall::Wall;
 
 /// What makes one kind of probe.
 type Maker = fn(&mut Chance) -> Frame;
 
 /// The kinds of probes, with the names they are counted by.
-const KINDS: [(&str, Maker); 33] = [
+const KINDS: [(&str, Maker); 45] = [
     ("sound", sound),
     ("unread", unread),
     ("disallowed", disallowed),
@@ -40,9 +44,11 @@ const KINDS: [(&str, Maker); 33] = [
     ("source-field", source_field),
     ("source-field", source_field),
     ("source-field", source_field),
+    ("source-field", source_field),
     ("course", course),
     ("course", course),
     ("receiver-field", receiver_field),
+    ("sum", sums),
     ("sum", sums),
     ("length", wrong_length),
     ("dense", dense),
@@ -56,6 +62,16 @@ const KINDS: [(&str, Maker); 33] = [
     ("cut-pair", cut_pair),
     ("cut-pair", cut_pair),
     ("cut-pair", cut_pair),
+    ("wall-field", wall_field),
+    ("wall-field", wall_field),
+    ("screened", screened),
+    ("screened", screened),
+    ("screened-sums", screened_sums),
+    ("bad-pair-walled", bad_pair_walled),
+    ("bad-pair-walled", bad_pair_walled),
+    ("loud-walled", loud_walled),
+    ("turning", turning),
+    ("turning", turning),
     ("tight-square", tight_square),
     ("tight-level", tight_level),
     ("faint-level", faint_level),
@@ -90,7 +106,7 @@ pub(crate) fn frame_of(book: &Book, record: &Record) -> Frame {
     }
 }
 
-/// A town and a book in which at least one source and one receiver stand.
+/// A town and a book in which at least one source and one receiver stand, and mostly some walls.
 pub(crate) fn settled(chance: &mut Chance) -> (Town, Book) {
     let town = Town::of_width(chance, WIDE);
     let records = chance.between(5, 150);
@@ -122,7 +138,8 @@ pub(crate) fn fitting_record(chance: &mut Chance, town: &Town, book: &Book) -> R
     let fits = !chance.one_in(6);
     let source = |chance: &mut Chance, used| slot_in(chance, &book.sources, used) as i64;
     let receiver = |chance: &mut Chance, used| slot_in(chance, &book.accounts, used) as i64;
-    match chance.between(0, 7) {
+    match chance.between(0, 9) {
+        8 | 9 => wall_call(chance, book, town),
         0 => Record::PlaceReceiver(receiver(chance, !fits), town.receiver(chance)),
         1 => Record::WithdrawReceiver(receiver(chance, fits)),
         2 | 3 => {
@@ -192,9 +209,27 @@ fn disallowed(chance: &mut Chance) -> Frame {
             receiver.height = chance.pick(&HEIGHT.outer_edges(HEIGHT.bits));
             Record::PlaceReceiver(slot, receiver).bytes()
         }
+        Record::PlaceWall(slot, wall) => {
+            Record::PlaceWall(slot, disallowed_wall(chance, wall)).bytes()
+        }
         _ => broken_source(chance),
     };
     frame
+}
+
+/// The same wall with a height that is not allowed, both ends at one place, or both.
+fn disallowed_wall(chance: &mut Chance, wall: Wall) -> Wall {
+    let height = chance.pick(&WALL_HEIGHT.outer_edges(WALL_HEIGHT.bits));
+    let second = wall.first;
+    chance.pick(&[
+        Wall { height, ..wall },
+        Wall { second, ..wall },
+        Wall {
+            second,
+            height,
+            ..wall
+        },
+    ])
 }
 
 /// The bytes of a source with one field, or its surface, or two of these, not allowed.
@@ -229,9 +264,9 @@ fn past_an_edge(chance: &mut Chance, mut place: Record) -> Record {
     let breakable = |field: &&Field| !field.outer_edges(field.bits).is_empty();
     let fields: Vec<&Field> = place.fields()[1..].iter().filter(breakable).collect();
     let field = chance.pick(&fields);
-    if field.of_walls() {
-        for walls in [WALLS, WALL_HEIGHT, WALL_SPACING] {
-            place = place.with(&walls, walls.most());
+    if field.of_parallel_walls() {
+        for parallel_walls in [PARALLEL_WALLS, PARALLEL_HEIGHT, PARALLEL_SPACING] {
+            place = place.with(&parallel_walls, parallel_walls.most());
         }
     }
     place.with(field, chance.pick(&field.outer_edges(field.bits)))
@@ -280,10 +315,10 @@ fn marked(chance: &mut Chance) -> Frame {
     let record = fitting_record(chance, &town, &book);
     let mut frame = frame_of(&book, &record);
     let used = chance.one_in(2);
-    let at = if chance.one_in(2) {
-        source_at(slot_in(chance, &book.sources, used))
-    } else {
-        receiver_at(slot_in(chance, &book.accounts, used))
+    let at = match chance.between(0, 2) {
+        0 => source_at(slot_in(chance, &book.sources, used)),
+        1 => receiver_at(slot_in(chance, &book.accounts, used)),
+        _ => wall_at(slot_in(chance, &book.walls, used)),
     };
     frame.image[at] = chance.pick(&[0, 1, 2, 3, 128, 129, 255]);
     frame
@@ -294,13 +329,18 @@ fn unused_byte(chance: &mut Chance) -> Frame {
     let (town, book) = settled(chance);
     let record = fitting_record(chance, &town, &book);
     let mut frame = frame_of(&book, &record);
-    let at = if chance.one_in(2) {
-        let slot = slot_in(chance, &book.sources, false);
-        source_at(slot) + chance.edge(1, SOURCE_SIZE as i64 - 1) as usize
-    } else {
-        let slot = slot_in(chance, &book.accounts, false);
-        receiver_at(slot) + chance.edge(1, RECEIVER_SIZE as i64 - 1) as usize
+    let (slot_at, size) = match chance.between(0, 2) {
+        0 => (
+            source_at(slot_in(chance, &book.sources, false)),
+            SOURCE_SIZE,
+        ),
+        1 => (
+            receiver_at(slot_in(chance, &book.accounts, false)),
+            RECEIVER_SIZE,
+        ),
+        _ => (wall_at(slot_in(chance, &book.walls, false)), WALL_SIZE),
     };
+    let at = slot_at + chance.edge(1, size as i64 - 1) as usize;
     frame.image[at] = chance.pick(&[0, 1, 128, 255]);
     frame
 }
@@ -334,8 +374,11 @@ fn source_field(chance: &mut Chance) -> Frame {
             );
         }
         1 => {
-            set(&WALLS, chance.between(0, WALLS.most() + 1));
-            for size in [WALL_HEIGHT, WALL_SPACING] {
+            set(
+                &PARALLEL_WALLS,
+                chance.between(0, PARALLEL_WALLS.most() + 1),
+            );
+            for size in [PARALLEL_HEIGHT, PARALLEL_SPACING] {
                 set(&size, chance.pick(&size.edges(size.stored_bits())));
             }
         }
@@ -390,6 +433,34 @@ fn receiver_field(chance: &mut Chance) -> Frame {
     let value = trial_value(chance, &field, field.stored_bits());
     let index = receiver_index(&field);
     set_field(&mut frame.image, at, &RECEIVER_BYTES, index, value as u64);
+    frame
+}
+
+/// A field of a standing wall at its limit or beyond it, or both its ends at one place, or nearly.
+fn wall_field(chance: &mut Chance) -> Frame {
+    let (town, mut book) = settled(chance);
+    let slot = chance.edge_in(&WALL_SLOT) as usize;
+    let mut wall = town.wall(chance);
+    if chance.one_in(3) {
+        wall.second = wall.first;
+        wall.second.x += chance.between(0, 1).min(FARTHEST - wall.first.x);
+    }
+    book.walls[slot] = Some(wall);
+    let record = fitting_record(chance, &town, &book);
+    let mut frame = frame_of(&book, &record);
+    if chance.one_in(2) {
+        let any = chance.pick(&WALL_FIELDS[1..]);
+        let field = chance.pick(&[any, WALL_HEIGHT]);
+        let value = trial_value(chance, &field, field.stored_bits());
+        let index = wall_index(&field);
+        set_field(
+            &mut frame.image,
+            wall_at(slot),
+            &WALL_BYTES,
+            index,
+            value as u64,
+        );
+    }
     frame
 }
 

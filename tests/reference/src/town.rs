@@ -7,20 +7,24 @@ use crate::course::{Course, Point};
 use crate::cuts::{span, spanned, within};
 use crate::daily::Daily;
 use crate::fields::{
-    Field, CAR_SPEED, CLASS, DTV, FARTHEST, HEIGHT, LANES, LENGTH, MINUS, RECEIVERS, RECEIVER_SLOT,
-    REFLECTION, SOURCES, STEEPEST, SURFACE, TRUCKS, TRUCK_SPEED, VEHICLES, WALLS, WALL_HEIGHT,
-    WALL_SPACING,
+    Field, CAR_SPEED, CLASS, DTV, FARTHEST, HEIGHT, LANES, LENGTH, MINUS, PARALLEL_HEIGHT,
+    PARALLEL_SPACING, PARALLEL_WALLS, RECEIVERS, RECEIVER_SLOT, REFLECTION, SOURCES, STEEPEST,
+    SURFACE, TRUCKS, TRUCK_SPEED, VEHICLES, WALLS, WALL_HEIGHT,
 };
 use crate::limits::TURNING_SPEEDS;
 use crate::record::Record;
 use crate::road::{
     Receiver, Source, Traffic, FARTHEST_SQUARE, FAST_ABOVE, FAST_SURFACE, FLAT, SOURCE_HEIGHT,
 };
+use crate::wall::Wall;
 
 /// The width of a town in which no two points are too far apart.
 pub const WIDE: i64 = 140_000;
 const RISE: i64 = HEIGHT.most() - SOURCE_HEIGHT;
 const _: () = assert!(2 * WIDE * WIDE + RISE * RISE <= FARTHEST_SQUARE);
+
+/// Slots of walls that a town mostly uses.
+const FEW_WALLS: usize = 4;
 
 /// The greatest surface of a road for cars of this speed.
 pub const fn surfaces_at(car_speed: i64) -> i64 {
@@ -94,8 +98,37 @@ impl Town {
         placing(chance, slot, source)
     }
 
+    /// A wall in this town.
+    pub fn wall(&self, chance: &mut Chance) -> Wall {
+        let (x, y) = self.spot(chance);
+        let length = chance.magnitude(self.width);
+        let (dx, dy) = span(chance, length);
+        let u = within(x, dx, (self.x, self.x + self.width));
+        let v = within(y, dy, (self.y, self.y + self.width));
+        let most = chance.pick(&[600, WALL_HEIGHT.most()]);
+        Wall::new(x, y, u, v, chance.edge(WALL_HEIGHT.least(), most))
+    }
+
+    /// A record that places or withdraws a wall, mostly on one of a few slots.
+    pub fn wall_record(&self, chance: &mut Chance) -> Record {
+        let slot = slot(chance, FEW_WALLS, WALLS);
+        match chance.between(0, 2) {
+            0 => Record::WithdrawWall(slot),
+            _ => Record::PlaceWall(slot, self.wall(chance)),
+        }
+    }
+
     /// A record of any kind, on slots below the given counts.
     pub fn record(&self, chance: &mut Chance, sources: usize, receivers: usize) -> Record {
+        if chance.one_in(12) {
+            self.wall_record(chance)
+        } else {
+            self.road_record(chance, sources, receivers)
+        }
+    }
+
+    /// The same without walls, on which a book with many slots in use works long.
+    pub fn road_record(&self, chance: &mut Chance, sources: usize, receivers: usize) -> Record {
         let source_slot = slot(chance, sources, SOURCES);
         let receiver_slot = slot(chance, receivers, RECEIVERS);
         match chance.between(0, 19) {
@@ -159,11 +192,14 @@ pub fn traffic(chance: &mut Chance) -> Traffic {
     Traffic { vehicles, trucks }
 }
 
-fn walls(chance: &mut Chance) -> (i64, i64, i64) {
-    let kind = chance.within(&WALLS);
+fn parallel_walls(chance: &mut Chance) -> (i64, i64, i64) {
+    let kind = chance.within(&PARALLEL_WALLS);
     let sizes = match (kind, chance.between(0, 3)) {
         (0, _) => (0, 0),
-        (_, 0) => (chance.edge_in(&WALL_HEIGHT), chance.edge_in(&WALL_SPACING)),
+        (_, 0) => (
+            chance.edge_in(&PARALLEL_HEIGHT),
+            chance.edge_in(&PARALLEL_SPACING),
+        ),
         _ => (chance.between(1, 1500), chance.between(800, 4000)),
     };
     (kind, sizes.0, sizes.1)
@@ -172,7 +208,7 @@ fn walls(chance: &mut Chance) -> (i64, i64, i64) {
 /// An allowed road at no place in particular.
 pub fn road(chance: &mut Chance) -> Source {
     let car_speed = speed(chance, &CAR_SPEED);
-    let (walls, wall_height, wall_spacing) = walls(chance);
+    let (parallel_walls, parallel_height, parallel_spacing) = parallel_walls(chance);
     Source {
         course: Course::uncut(0, 0, chance.magnitude(6000)),
         several_lanes: chance.within(&LANES),
@@ -181,9 +217,9 @@ pub fn road(chance: &mut Chance) -> Source {
         surface: chance.between(SURFACE.least(), surfaces_at(car_speed)),
         gradient: gradient(chance),
         reflection: chance.within(&REFLECTION),
-        walls,
-        wall_height,
-        wall_spacing,
+        parallel_walls,
+        parallel_height,
+        parallel_spacing,
         traffic: std::array::from_fn(|_| traffic(chance)),
     }
 }

@@ -5,13 +5,15 @@ use crate::book::Answer;
 use crate::chance::Chance;
 use crate::cuts::{corner_roads, stretched_roads};
 use crate::fields::{
-    Field, BETWEEN_FIELDS, RECEIVERS, RECEIVER_SLOT, SECOND_Y, SOURCES, SOURCE_SLOT,
+    Field, BETWEEN_FIELDS, FIRST_X, FIRST_Y, PARALLEL_HEIGHT, RECEIVERS, RECEIVER_SLOT, SECOND_X,
+    SECOND_Y, SOURCES, SOURCE_SLOT, WALL_FIELDS, WALL_SLOT,
 };
 use crate::fixed::{one_of_each, surfaced_records, trial_records};
 use crate::limits::trial_values;
 use crate::probe::{front, head, number, Deed, LONGEST_PIECE};
 use crate::record::{fields_of, length_of, read, write, Record, LONGEST};
 use crate::town::Town;
+use std::ops::Range;
 
 /// A call and the bytes there are for its record, all FF before.
 #[derive(Clone, Debug, PartialEq, Eq)]
@@ -38,7 +40,7 @@ const FIELDS: usize = {
 
 /// Bytes that a field has in such a frame.
 fn bytes_of(field: &Field) -> usize {
-    if [SOURCE_SLOT, RECEIVER_SLOT].contains(field) {
+    if [SOURCE_SLOT, RECEIVER_SLOT, WALL_SLOT].contains(field) {
         SLOT
     } else {
         field.type_bytes()
@@ -50,21 +52,56 @@ pub fn bits_of(field: &Field) -> u32 {
     8 * bytes_of(field) as u32
 }
 
-/// The fields of a kind, an ask's where it is not listed, in the order of such a frame: the number
-/// that two ends have more than a middle and a length comes after all that they have in common.
-fn framed(kind: u8) -> Vec<Field> {
-    let fields = fields_of(kind).unwrap_or(&[RECEIVER_SLOT]);
+/// A field and where its bytes are among those of the fields.
+type Seat = (Field, Range<usize>);
+
+/// The fields of a source between two ends in whose bytes those of a wall are.
+const WALL_SEATS: [Field; WALL_FIELDS.len()] = [
+    SOURCE_SLOT,
+    FIRST_X,
+    FIRST_Y,
+    SECOND_X,
+    SECOND_Y,
+    PARALLEL_HEIGHT,
+];
+
+/// The fields of a kind, an ask's where it is not listed, with their bytes in such a frame.
+fn seats(kind: u8) -> Vec<Seat> {
+    match fields_of(kind) {
+        Some(fields) if fields == WALL_FIELDS => wall_seats(),
+        fields => seats_in_turn(fields.unwrap_or(&[RECEIVER_SLOT])),
+    }
+}
+
+/// The fields of a table one after the other: the number that two ends have more than a middle and
+/// a length comes after all that they have in common.
+fn seats_in_turn(fields: &[Field]) -> Vec<Seat> {
     let (last, mut order): (Vec<Field>, Vec<Field>) =
         fields.iter().partition(|&field| field == &SECOND_Y);
     order.extend(last);
-    order
+    let mut end = 0;
+    let seat = |field: Field| {
+        end += bytes_of(&field);
+        (field, end - bytes_of(&field)..end)
+    };
+    order.into_iter().map(seat).collect()
 }
 
-/// What the bytes after the last field hold, which say nothing. After a source they are such that
-/// a program which took them for traffic or for an end is found out.
+/// The fields of a wall: its ends are where a source has them, and its height where a source has
+/// that of parallel walls.
+fn wall_seats() -> Vec<Seat> {
+    let source = seats_in_turn(&BETWEEN_FIELDS);
+    let among = |seat: &Field| source.iter().find(|(field, _)| field == seat);
+    let places = WALL_SEATS.iter().filter_map(among);
+    let seats = WALL_FIELDS.into_iter().zip(places);
+    seats.map(|(field, (_, at))| (field, at.clone())).collect()
+}
+
+/// What the bytes hold that say nothing. With what is placed on a road or beside it they are such
+/// that a program which took them for traffic or for an end is found out.
 fn filler(record: &Record) -> u8 {
     match record {
-        Record::PlaceSource(..) | Record::PlaceDaily(..) => 0xff,
+        Record::PlaceSource(..) | Record::PlaceDaily(..) | Record::PlaceWall(..) => 0xff,
         _ => 0,
     }
 }
@@ -75,12 +112,12 @@ impl Writing {
         out.extend(MARK);
         out.extend((self.room as u16).to_be_bytes());
         out.push(self.record.kind());
-        let end = out.len() + SLOT + FIELDS;
-        for field in framed(self.record.kind()) {
-            let value = self.record.value(&field);
-            out.extend(&value.to_be_bytes()[8 - bytes_of(&field)..]);
+        let mut call = [filler(&self.record); SLOT + FIELDS];
+        for (field, at) in seats(self.record.kind()) {
+            let value = self.record.value(&field).to_be_bytes();
+            call[at.clone()].copy_from_slice(&value[8 - at.len()..]);
         }
-        out.resize(end, filler(&self.record));
+        out.extend(call);
     }
 
     /// Takes such a probe off the front; none where no whole one is left.
@@ -88,12 +125,13 @@ impl Writing {
         let mut rest = input.strip_prefix(&MARK)?;
         let room = number(front(&mut rest, 2)?);
         let kind = front(&mut rest, 1)?[0];
-        let mut left = front(&mut rest, SLOT + FIELDS)?;
+        let call = front(&mut rest, SLOT + FIELDS)?;
         *input = rest;
-        let fields = framed(kind);
-        let next = |field: &Field| front(&mut left, bytes_of(field)).map_or(0, number) as i64;
-        let values: Vec<i64> = fields.iter().map(next).collect();
-        let record = Record::of(kind, |field| values[field.index_in(&fields)]);
+        let seats = seats(kind);
+        let record = Record::of(kind, |wanted| {
+            let seat = seats.iter().find(|(field, _)| field == wanted);
+            seat.map_or(0, |(_, at)| number(&call[at.clone()]) as i64)
+        });
         Some(Writing { record, room })
     }
 
@@ -121,8 +159,9 @@ pub fn writing(seed: u64) -> Writing {
     let chance = &mut Chance::new(seed);
     let town = Town::anywhere(chance);
     let slot = chance.within(&SOURCE_SLOT);
-    let mut record = match chance.between(0, 1) {
-        0 => town.placing(chance, slot),
+    let mut record = match chance.between(0, 4) {
+        0 | 1 => town.placing(chance, slot),
+        2 => town.wall_record(chance),
         _ => town.record(chance, SOURCES, RECEIVERS),
     };
     for _ in 0..chance.pick(&[0, 0, 1, 1, 2]) {
@@ -136,13 +175,18 @@ pub fn writing(seed: u64) -> Writing {
 }
 
 /// The same record with its slot or a field at a limit, beyond it, or beyond what a record holds;
-/// or with other ends, at the corners of the map or just as far apart as they may be.
+/// or with other ends, at the corners of the map or just as far apart as they may be; or, of a wall,
+/// with both at one place.
 fn changed(chance: &mut Chance, record: Record) -> Record {
     if let (7, Record::PlaceSource(slot, source), true) = (record.kind(), record, chance.one_in(4))
     {
         let mut roads = stretched_roads(chance, source);
         roads.extend(corner_roads(chance, source));
         return Record::PlaceSource(slot, chance.pick(&roads));
+    }
+    if let (Record::PlaceWall(slot, mut wall), true) = (record, chance.one_in(4)) {
+        wall.second = wall.first;
+        return Record::PlaceWall(slot, wall);
     }
     let at = chance.index(record.fields().len());
     let field = &record.fields()[at];

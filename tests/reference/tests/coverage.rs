@@ -8,7 +8,7 @@ use reference::jobs::job;
 use reference::listing::{list, Tally};
 use reference::probe::Frame;
 use reference::record::{extent, fields_of, kind_in, listed_kinds, read, write, Record};
-use reference::road::{Refusal, FAST_ABOVE, FAST_SURFACE};
+use reference::road::{Refusal, FAST_ABOVE, FAST_SURFACE, NUMBERS};
 use reference::stores::frame;
 use reference::writing::{fixed_writings, writing, Writing};
 
@@ -20,7 +20,7 @@ fn jobs_meet_every_refusal() {
     for job in SEEDS.map(job).chain(fixed_jobs()) {
         tally.add(&list(&job, &mut Vec::new()));
     }
-    for number in (2..=13).filter(|&number| number != 7) {
+    for number in (2..=14).filter(|&number| number != 7) {
         assert!(tally.refusals[number] >= 20, "refusal {number}");
     }
     assert_eq!(tally.refusals[7], 0);
@@ -70,7 +70,7 @@ fn jobs_with_daily_figures_are_those_with_the_traffic_told() {
 
 #[test]
 fn jobs_meet_every_refusal_of_a_daily_figure() {
-    let mut counts = [0; 14];
+    let mut counts = [0; NUMBERS];
     for job in SEEDS.map(job).chain(fixed_jobs()) {
         let mut book = Book::cleared();
         for piece in pieces(&job) {
@@ -131,7 +131,7 @@ fn records_that_are_read_are_written_as_they_were() {
 
 #[test]
 fn probes_meet_every_refusal() {
-    let mut counts = [0; 14];
+    let mut counts = [0; NUMBERS];
     let mut late = [0; 16];
     for mut frame in SEEDS.map(frame).chain(fixed_frames()) {
         let before = frame.image.clone();
@@ -143,7 +143,7 @@ fn probes_meet_every_refusal() {
             }
         }
     }
-    for number in (1..=13).filter(|&number| number != 7) {
+    for number in (1..=14).filter(|&number| number != 7) {
         assert!(counts[number] >= 3, "refusal {number}");
     }
     for (kind, met) in late.into_iter().enumerate() {
@@ -188,7 +188,7 @@ fn what_is_done_keeps_a_stored_state_sound() {
 
 #[test]
 fn writings_meet_every_refusal_of_the_writer() {
-    let mut counts = [0; 14];
+    let mut counts = [0; NUMBERS];
     let mut places = [0; 20];
     for writing in SEEDS.map(writing).chain(fixed_writings()) {
         let (deed, room) = writing.call();

@@ -5,8 +5,8 @@ use reference::book::{apply_stored, decode, encode, Answer, Book, Levels, TOP};
 use reference::course::{pieces, Course};
 use reference::cuts::MAKERS;
 use reference::fields::{
-    Field, CAR_SPEED, FIRST_X, FIRST_Y, LANES, SECOND_X, SECOND_Y, SOURCE_SLOT, SURFACE,
-    WALL_SPACING,
+    Field, CAR_SPEED, FIRST_X, FIRST_Y, LANES, PARALLEL_SPACING, SECOND_X, SECOND_Y, SOURCE_SLOT,
+    SURFACE,
 };
 use reference::fixed::{example_receiver, example_source};
 use reference::level::{energy, level};
@@ -221,9 +221,9 @@ fn loud_road(vehicles: i64) -> Source {
         truck_speed: 80,
         surface: 4,
         gradient: 120,
-        walls: 1,
-        wall_height: 2000,
-        wall_spacing: 1500,
+        parallel_walls: 1,
+        parallel_height: 2000,
+        parallel_spacing: 1500,
         ..Source::default()
     };
     source.traffic[1].vehicles = vehicles;
@@ -342,9 +342,9 @@ fn street() -> Record {
             surface: 2,
             gradient: 131,
             reflection: 1,
-            walls: 2,
-            wall_height: 600,
-            wall_spacing: 1200,
+            parallel_walls: 2,
+            parallel_height: 600,
+            parallel_spacing: 1200,
             traffic: traffic.map(|(vehicles, trucks)| Traffic { vehicles, trucks }),
         },
     )
@@ -482,7 +482,7 @@ fn fields_come_in_their_order_with_the_length_after_the_ends() {
     let night_trucks = record.fields()[19];
     let wrong = [
         (night_trucks, 1001, 19),
-        (WALL_SPACING, 0, 13),
+        (PARALLEL_SPACING, 0, 13),
         (SURFACE, 0, 8),
         (CAR_SPEED, 0, 6),
         (LANES, 2, 5),

@@ -10,7 +10,7 @@ use reference::limits::{FAR_STEPS, NEAR_STEPS};
 use reference::record::{extent, kind_in, read, take, Record};
 use reference::road::{
     emission, heard, length_term, Receiver, Refusal, Source, FARTHEST_SQUARE, GREATEST_SHARE,
-    LOUDEST, NEAREST_SQUARE,
+    LOUDEST, NEAREST_SQUARE, NUMBERS,
 };
 use reference::store::{receiver_at, take_source, SOURCE_BYTES, SOURCE_SIZE, STORE_SIZE};
 use reference::stores::frame;
@@ -43,7 +43,7 @@ fn done(job: &[u8], book: &mut Book) -> Answer {
 
 #[test]
 fn jobs_meet_every_refusal_of_such_a_road() {
-    let (mut counts, mut of_length, mut placed) = ([0; 14], [0; 2], 0);
+    let (mut counts, mut of_length, mut placed) = ([0; NUMBERS], [0; 2], 0);
     for job in SEEDS.map(job).chain(fixed_jobs()) {
         walk(&job, |record, book| {
             let answer = done(record, book);
@@ -62,7 +62,7 @@ fn jobs_meet_every_refusal_of_such_a_road() {
         });
     }
     for (number, met) in counts.into_iter().enumerate() {
-        let possible = [2, 4, 5, 6, 8, 10, 11, 13].contains(&number);
+        let possible = [2, 4, 5, 6, 8, 10, 11, 13, 14].contains(&number);
         assert!(possible == (met >= 20), "refusal {number}: {met}");
         assert!(possible || met == 0, "refusal {number}: {met}");
     }
@@ -107,7 +107,7 @@ fn levels(source: &Source, found: &[Piece], receiver: &Receiver, period: usize) 
     let sent = emission(source);
     let found = found.iter().filter(|piece| !is_far(piece));
     let level = |piece: &Piece| {
-        let level = heard(&sent, piece, receiver)[period]?;
+        let level = heard(&sent, piece, receiver, 0)[period]?;
         Some(level + length_term(piece.length))
     };
     found.filter_map(level).collect()
@@ -242,7 +242,7 @@ fn jobs_meet_every_way_in_which_such_a_road_is_cut() {
 #[test]
 fn probes_meet_every_way_in_which_such_a_road_is_cut() {
     let mut met = Met::default();
-    for frame in (1..=8000).map(frame) {
+    for frame in (1..=10_000).map(frame) {
         if let (Some(book), Ok((record, _))) = (decode(&frame.image), read(&frame.record)) {
             met.meet_record(&book, &record);
         }
@@ -287,7 +287,7 @@ fn jobs_withdraw_roads_that_are_cut() {
 #[test]
 fn probes_meet_the_late_damage_of_roads_that_are_cut() {
     let (mut placing, mut withdrawing, mut withdrawn_well) = (0, 0, 0);
-    for mut frame in (1..=6000).map(frame) {
+    for mut frame in (1..=8000).map(frame) {
         let (Some(book), Ok((record, _))) = (decode(&frame.image), read(&frame.record)) else {
             continue;
         };
@@ -304,7 +304,7 @@ fn probes_meet_the_late_damage_of_roads_that_are_cut() {
         }
     }
     let counts = [placing, withdrawing, withdrawn_well];
-    assert!(counts.into_iter().all(|count| count >= 10), "{counts:?}");
+    assert!(counts.into_iter().all(|count| count >= 5), "{counts:?}");
 }
 
 /// What the used source slots of stored states say of a course, and whether the state is damaged by
@@ -352,7 +352,7 @@ fn probes_meet_every_way_to_tell_a_course() {
 #[test]
 fn writings_of_such_a_road_meet_every_refusal_of_the_writer() {
     let mut places = [0; 20];
-    let mut numbers = [0; 14];
+    let mut numbers = [0; NUMBERS];
     let mut short_by_one = 0;
     for writing in (1..=4000).map(writing).chain(fixed_writings()) {
         if writing.record.kind() != BETWEEN {

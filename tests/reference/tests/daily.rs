@@ -4,7 +4,7 @@
 use reference::book::{apply_stored, encode, Answer, Book, TOP};
 use reference::course::Course;
 use reference::daily::Daily;
-use reference::fields::{CLASS, DTV, SOURCE_SLOT, SURFACE, WALL_HEIGHT, WALL_SPACING};
+use reference::fields::{CLASS, DTV, PARALLEL_HEIGHT, PARALLEL_SPACING, SOURCE_SLOT, SURFACE};
 use reference::fixed::{example_receiver, example_source};
 use reference::record::{read, write, Record};
 use reference::road::{Refusal, Source, Traffic};
@@ -20,9 +20,9 @@ fn street() -> Source {
         surface: 2,
         gradient: 131,
         reflection: 1,
-        walls: 2,
-        wall_height: 600,
-        wall_spacing: 1200,
+        parallel_walls: 2,
+        parallel_height: 600,
+        parallel_spacing: 1200,
         ..Source::default()
     }
 }
@@ -168,8 +168,8 @@ fn fields_come_in_their_order_and_before_the_surface_for_faster_roads() {
     let wrong = [
         (DTV, 0),
         (CLASS, 4),
-        (WALL_SPACING, 0),
-        (WALL_HEIGHT, 0),
+        (PARALLEL_SPACING, 0),
+        (PARALLEL_HEIGHT, 0),
         (SURFACE, 0),
         (SOURCE_SLOT, 512),
     ];
@@ -180,22 +180,22 @@ fn fields_come_in_their_order_and_before_the_surface_for_faster_roads() {
 }
 
 #[test]
-fn walls_are_judged_as_for_any_source() {
+fn parallel_walls_are_judged_as_for_any_source() {
     let place = |source| judged(&Record::PlaceDaily(7, Daily::new(source, 3, 1500)));
     let unwalled = Source {
-        walls: 0,
-        wall_height: 0,
-        wall_spacing: 0,
+        parallel_walls: 0,
+        parallel_height: 0,
+        parallel_spacing: 0,
         ..street()
     };
     assert_eq!(place(unwalled), None);
     let high = Source {
-        wall_height: 1,
+        parallel_height: 1,
         ..unwalled
     };
     assert_eq!(place(high), Some((5, 12)));
     let wide = Source {
-        wall_spacing: 1,
+        parallel_spacing: 1,
         ..unwalled
     };
     assert_eq!(place(wide), Some((5, 13)));
@@ -209,9 +209,9 @@ fn loud_road() -> Source {
         truck_speed: 80,
         surface: 4,
         gradient: 120,
-        walls: 1,
-        wall_height: 2000,
-        wall_spacing: 1500,
+        parallel_walls: 1,
+        parallel_height: 2000,
+        parallel_spacing: 1500,
         ..Source::default()
     }
 }

@@ -12,7 +12,8 @@ use reference::probe::Frame;
 use reference::record::{extent, fields_of, listed_kinds, take, Record};
 use reference::road::{Receiver, Refusal, Source, FARTHEST_SQUARE, LOUDEST, NEAREST_SQUARE};
 use reference::store::{
-    receiver_at, take_source, unpack, RECEIVER_BYTES, RECEIVER_SIZE, SOURCE_SIZE, STORE_SIZE, SUMS,
+    receiver_at, take_source, take_wall, unpack, wall_at, RECEIVER_BYTES, RECEIVER_SIZE,
+    SOURCE_SIZE, STORE_SIZE, SUMS, WALL_SIZE,
 };
 use reference::stores::frame;
 use reference::writing::{bits_of, fixed_writings, writing};
@@ -23,7 +24,7 @@ use std::ops::RangeInclusive;
 const SEEDS: RangeInclusive<u64> = 1..=2000;
 
 /// The kinds of records that place what has fields in the store.
-const PLACINGS: [u8; 3] = [1, 3, 7];
+const PLACINGS: [u8; 4] = [1, 3, 7, 8];
 
 /// The kind of record that has a length which follows from others of its fields.
 const BETWEEN: u8 = 7;
@@ -52,9 +53,9 @@ fn edges_of(field: &Field, bits: u32) -> Vec<(i64, bool)> {
     edges
 }
 
-/// The edges of a size of walls where there are none: 0 is to be accepted and 1 to be refused.
-fn edges_without_walls(field: &Field) -> Vec<(i64, bool)> {
-    if field.of_walls() {
+/// The edges of a size of parallel walls where there are none: 0 is to be accepted and 1 to be refused.
+fn edges_without_parallel_walls(field: &Field) -> Vec<(i64, bool)> {
+    if field.of_parallel_walls() {
         vec![(0, true), (1, false)]
     } else {
         Vec::new()
@@ -113,7 +114,7 @@ impl Missed {
                     &LENGTH if kind == BETWEEN => edges_of_length(),
                     _ => edges_of(field, bits(field)),
                 };
-                of_field.extend(edges_without_walls(field));
+                of_field.extend(edges_without_parallel_walls(field));
                 let named = |(value, good)| (kind, at, value, good);
                 edges.extend(of_field.into_iter().map(named));
             }
@@ -156,6 +157,7 @@ impl Missed {
         if image.len() == STORE_SIZE {
             sources_in(image).for_each(|record| self.meet(&record));
             accounts_in(image).for_each(|(record, _)| self.meet(&record));
+            walls_in(image).for_each(|record| self.meet(&record));
         }
     }
 
@@ -178,9 +180,16 @@ fn sources_in(image: &[u8]) -> impl Iterator<Item = Record> + '_ {
     used.filter_map(|(number, slot)| Some(Record::PlaceSource(number, take_source(slot)?)))
 }
 
+/// The walls in a stored state, whether allowed or not.
+fn walls_in(image: &[u8]) -> impl Iterator<Item = Record> + '_ {
+    let slots = image[wall_at(0)..].chunks_exact(WALL_SIZE);
+    let used = (0..).zip(slots).filter(|(_, slot)| slot[0] == 1);
+    used.map(|(number, slot)| Record::PlaceWall(number, take_wall(slot)))
+}
+
 /// The receivers in a stored state, whether allowed or not, with their sums.
 fn accounts_in(image: &[u8]) -> impl Iterator<Item = (Record, Vec<u64>)> + '_ {
-    let slots = image[receiver_at(0)..].chunks_exact(RECEIVER_SIZE);
+    let slots = image[receiver_at(0)..wall_at(0)].chunks_exact(RECEIVER_SIZE);
     let used = (0..).zip(slots).filter(|(_, slot)| slot[0] == 1);
     used.map(|(number, slot)| {
         let values = unpack(slot, &RECEIVER_BYTES);
@@ -236,7 +245,7 @@ fn stored_states_by_chance_meet_both_sides_of_every_field() {
     };
     let all = Missed::stored();
     let mut missed = Missed(all.0.clone());
-    (1..=4000).for_each(|seed| missed.meet_image(&frame(seed).image));
+    (1..=6000).for_each(|seed| missed.meet_image(&frame(seed).image));
     let met = Missed(&all.0 - &missed.0);
     assert_eq!(&sides(&all) - &sides(&met), BTreeSet::new());
 }

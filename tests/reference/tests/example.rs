@@ -1,6 +1,7 @@
 // The example job that is handed out, held against its listing.
 // Whoever changes one of the two has to make the other anew.
 
+use reference::book::{Answer, Book};
 use reference::course::{pieces, Course};
 use reference::listing::list;
 use reference::record::{extent, listed_kinds, read, Record};
@@ -29,13 +30,37 @@ fn the_bypass_has_its_listing() {
     let mut listing = Vec::new();
     let tally = list(&example("bypass.job"), &mut listing);
     assert_eq!(listing, example("bypass.listing"));
-    assert_eq!((tally.refusals[10], tally.refusals.iter().sum()), (1, 1));
+    let [on_the_road, second_wall] = [10, 14].map(|number| tally.refusals[number]);
+    assert_eq!((on_the_road, second_wall), (1, 1));
+    assert_eq!(tally.refusals.iter().sum::<u64>(), 2);
 }
 
 #[test]
 fn the_bypass_has_records_of_every_kind() {
     let kinds: BTreeSet<u8> = records().iter().map(Record::kind).collect();
     assert_eq!(kinds, BTreeSet::from_iter(listed_kinds()));
+}
+
+/// Every answer to the receivers of the village, for L_DEN in tenths.
+fn village() -> [Vec<i64>; 3] {
+    let mut book = Book::cleared();
+    let mut answers: [Vec<i64>; 3] = Default::default();
+    for record in records() {
+        if let (Record::Ask(slot @ 3..=5), Answer::Levels(levels)) = (record, book.apply(&record)) {
+            answers[slot as usize - 3].extend(levels.den);
+        }
+    }
+    answers
+}
+
+#[test]
+fn the_village_hears_less_behind_the_wall_and_least_behind_the_higher_one() {
+    for answers in village() {
+        let [.., open, low, high] = answers[..] else {
+            panic!("each is asked before and after both: {answers:?}");
+        };
+        assert!(high < low && low < open, "{answers:?}");
+    }
 }
 
 #[test]

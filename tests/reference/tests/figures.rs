@@ -11,13 +11,13 @@ use reference::limits::uncut_levels;
 use reference::listing::list;
 use reference::record::{length_of, listed_kinds, read, write, Record};
 use reference::road::{
-    car_level, distance_term, gradient_term, ground_term, root, speed_term, traffic_term,
-    truck_excess, truck_level, wall_term, Receiver, Refusal, Source, Traffic, GREATEST_SHARE,
+    car_level, distance_term, gradient_term, ground_term, parallel_term, root, speed_term,
+    traffic_term, truck_excess, truck_level, Receiver, Refusal, Source, Traffic, GREATEST_SHARE,
     LOUDEST,
 };
 use reference::store::{
-    field_at, receiver_at, source_at, source_index, RECEIVER_BYTES, RECEIVER_SIZE, SOURCE_BYTES,
-    SOURCE_SIZE, STORE_SIZE, SUMS,
+    field_at, receiver_at, source_at, source_index, wall_at, RECEIVER_BYTES, RECEIVER_SIZE,
+    SOURCE_BYTES, SOURCE_SIZE, STORE_SIZE, SUMS, WALL_SIZE,
 };
 
 /// The last slot of a source.
@@ -31,11 +31,11 @@ fn speeds(car_speed: i64, truck_speed: i64) -> Source {
     }
 }
 
-fn walled(walls: i64, wall_height: i64, wall_spacing: i64) -> Source {
+fn walled(parallel_walls: i64, parallel_height: i64, parallel_spacing: i64) -> Source {
     Source {
-        walls,
-        wall_height,
-        wall_spacing,
+        parallel_walls,
+        parallel_height,
+        parallel_spacing,
         ..example_source()
     }
 }
@@ -111,13 +111,13 @@ fn levels_of_traffic() {
 }
 
 #[test]
-fn gradients_and_walls() {
+fn gradients_and_parallel_walls() {
     assert_eq!([50, 51, 120].map(gradient_term), [0, 6, 420]);
     assert_eq!([178, 179, 248].map(gradient_term), [0, 6, 420]);
-    assert_eq!(wall_term(&walled(1, 600, 1200)), 200);
-    assert_eq!(wall_term(&walled(1, 1200, 1200)), 320);
-    assert_eq!(wall_term(&walled(2, 1200, 1200)), 160);
-    assert_eq!(wall_term(&walled(3, 1200, 1200)), 0);
+    assert_eq!(parallel_term(&walled(1, 600, 1200)), 200);
+    assert_eq!(parallel_term(&walled(1, 1200, 1200)), 320);
+    assert_eq!(parallel_term(&walled(2, 1200, 1200)), 160);
+    assert_eq!(parallel_term(&walled(3, 1200, 1200)), 0);
 }
 
 #[test]
@@ -192,7 +192,7 @@ fn quiet_and_faint_levels_in_the_listing() {
     let mut job = Record::PlaceReceiver(5, example_receiver()).bytes();
     job.extend(Record::PlaceSource(0, source).bytes());
     job.extend(Record::Ask(5).bytes());
-    job.push(0x80);
+    job.push(0xa0);
     let mut listing = Vec::new();
     list(&job, &mut listing);
     assert_eq!(listing, b"3 R05 --.- --.-\n4 E03\nEND 4\n");
@@ -203,7 +203,7 @@ fn the_reader_says_the_lowest_number() {
     let number = |bytes: &[u8]| read(bytes).map_err(|refusal| (refusal.number, refusal.place));
     assert_eq!(number(&[]), Err((2, 0)));
     assert_eq!(number(&[0x11]), Err((2, 0)));
-    assert_eq!(number(&[0x81]), Err((3, 0)));
+    assert_eq!(number(&[0xa1]), Err((3, 0)));
     assert_eq!(number(&[0x51, 0x41]), Err((4, 0)));
     let low = Receiver {
         height: HEIGHT.least() - 1,
@@ -304,18 +304,18 @@ fn limits_are_those_on_paper() {
 }
 
 #[test]
-fn walls_and_their_sizes_hang_together() {
-    let place = |walls, height, spacing| {
-        let outcome = Book::cleared().place_source(0, &walled(walls, height, spacing));
+fn parallel_walls_and_their_sizes_hang_together() {
+    let place = |parallel_walls, height, spacing| {
+        let outcome = Book::cleared().place_source(0, &walled(parallel_walls, height, spacing));
         outcome.err().map(|refusal| (refusal.number, refusal.place))
     };
     assert_eq!(place(0, 0, 0), None);
     assert_eq!(place(0, 1, 0), Some((5, 12)));
     assert_eq!(place(0, 0, 1), Some((5, 13)));
-    for walls in 1..=3 {
-        assert_eq!(place(walls, 0, 0), Some((5, 12)));
-        assert_eq!(place(walls, 1, 0), Some((5, 13)));
-        assert_eq!(place(walls, 1, 1), None);
+    for parallel_walls in 1..=3 {
+        assert_eq!(place(parallel_walls, 0, 0), Some((5, 12)));
+        assert_eq!(place(parallel_walls, 1, 0), Some((5, 13)));
+        assert_eq!(place(parallel_walls, 1, 1), None);
     }
 }
 
@@ -333,9 +333,10 @@ fn slots_stand_before_the_other_fields() {
 #[test]
 fn sizes_come_out_as_on_paper() {
     let lengths: Vec<_> = listed_kinds().into_iter().map(length_of).collect();
-    assert_eq!(lengths, [9, 2, 30, 2, 2, 20, 34].map(Some));
-    assert_eq!((SOURCE_SIZE, RECEIVER_SIZE), (40, 33));
-    assert_eq!((receiver_at(0), STORE_SIZE), (20_480, 22_592));
+    assert_eq!(lengths, [9, 2, 30, 2, 2, 20, 34, 15, 2].map(Some));
+    assert_eq!((SOURCE_SIZE, RECEIVER_SIZE, WALL_SIZE), (40, 33, 15));
+    assert_eq!((receiver_at(0), wall_at(0)), (20_480, 22_592));
+    assert_eq!(STORE_SIZE, 23_552);
     assert_eq!(TOP, 512 * 10i64.pow(15));
     assert_eq!(energy(LOUDEST), GREATEST_SHARE);
 }

@@ -3,6 +3,7 @@
 
 use reference::book::Answer;
 use reference::compare::{compare_probes, run, Order, Probe};
+use reference::road::NUMBERS;
 use reference::writing::{fixed_writings, writing};
 use std::process::ExitCode;
 
@@ -12,8 +13,8 @@ fn main() -> ExitCode {
 
 fn compare(order: &Order) -> Result<String, String> {
     let mut written = 0;
-    let mut refusals = [0u64; 14];
-    let mut kinds = [0u64; 7];
+    let mut refusals = [0u64; NUMBERS];
+    let mut kinds = [0u64; 9];
     let fixed = fixed_writings().into_iter().enumerate();
     let fixed = fixed.map(|(number, writing)| (format!("fixed-{number}-record"), writing));
     let drawn = |seed| (format!("seed-{seed}-record"), writing(seed));
@@ -34,12 +35,14 @@ fn compare(order: &Order) -> Result<String, String> {
             }
         });
     compare_probes(&order.program, probes)?;
-    let [receivers_in, receivers_out, sources_in, sources_out, asks, daily_in, between_in] = kinds;
+    let [receivers_in, receivers_out, sources_in, sources_out, asks, daily_in, between_in, walls_in, walls_out] =
+        kinds;
     Ok(format!(
         "{} writings agree: {written} written, refusals 2:{} 5:{} 6:{} 7:{}; kinds \
          place-receiver:{receivers_in} withdraw-receiver:{receivers_out} \
          place-source:{sources_in} withdraw-source:{sources_out} ask:{asks} \
-         place-daily:{daily_in} place-between:{between_in}",
+         place-daily:{daily_in} place-between:{between_in} place-wall:{walls_in} \
+         withdraw-wall:{walls_out}",
         kinds.iter().sum::<u64>(),
         refusals[2],
         refusals[5],

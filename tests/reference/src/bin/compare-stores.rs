@@ -6,6 +6,7 @@ use reference::compare::{compare_probes, refusal_counts, run, Order, Probe};
 use reference::fixed::fixed_frames;
 use reference::probe::Frame;
 use reference::record::kind_in;
+use reference::road::NUMBERS;
 use reference::stores::{frame, kind_name};
 use std::collections::BTreeMap;
 use std::process::ExitCode;
@@ -17,7 +18,7 @@ struct Tally {
     kinds: BTreeMap<&'static str, u64>,
     done: u64,
     asks: u64,
-    refusals: [u64; 14],
+    refusals: [u64; NUMBERS],
     late_placing: u64,
     late_withdrawing: u64,
 }

@@ -1,11 +1,12 @@
-// Prints the example job: a bypass that bends around a village, in ten roads which the book cuts,
-// and a side street. One receiver is placed on the road itself, to show a refusal (10).
+// Prints the example job: a bypass that bends around a village, in ten roads which the book cuts, a
+// side street and a noise wall. A receiver on the road (10) and a second wall (14) are refused.
 
 use reference::course::Course;
 use reference::daily::Daily;
 use reference::fields::HEIGHT;
 use reference::record::Record;
 use reference::road::{Receiver, Source, Traffic};
+use reference::wall::Wall;
 use std::io::{self, Write};
 
 const ROADS: i64 = 10;
@@ -105,6 +106,19 @@ fn street(number: i64) -> Daily {
     Daily::new(piece, 3, 1500)
 }
 
+/// The receivers of the village, the nearest to the bypass first.
+const VILLAGE: std::ops::RangeInclusive<i64> = 3..=5;
+
+/// A wall of 380 m between the bypass and the village, 12 to 20 m from the road.
+fn wall(height: i64) -> Wall {
+    Wall::new(428_000, 500_500, 466_000, 498_000, height)
+}
+
+/// A wall at the edge of the village, behind the other one.
+fn second_wall() -> Wall {
+    Wall::new(430_000, 484_000, 450_000, 484_000, 300)
+}
+
 fn job() -> Vec<Record> {
     let mut job = Vec::new();
     for (slot, receiver) in (0..).zip(receivers()) {
@@ -127,6 +141,12 @@ fn job() -> Vec<Record> {
         job.push(Record::PlaceDaily(1 + number, street(number)));
     }
     job.extend((0..12).map(Record::Ask));
+    job.push(Record::PlaceWall(0, wall(300)));
+    job.extend(VILLAGE.map(Record::Ask));
+    job.push(Record::PlaceWall(1, second_wall()));
+    job.push(Record::WithdrawWall(0));
+    job.push(Record::PlaceWall(0, wall(500)));
+    job.extend(VILLAGE.map(Record::Ask));
     job
 }
 

@@ -1,13 +1,14 @@
-// Writes the four jobs of the benchmark into a folder: a town, a town that is edited, a town that
-// is asked, and a town of long roads that is edited. Every record in them is taken.
+// Writes the five jobs of the benchmark into a folder: a town, a town that is edited, one that is
+// asked, one of long roads and one with walls that are edited. Every record in them is taken.
 
 use reference::chance::Chance;
 use reference::course::Course;
 use reference::cuts::{span, within};
-use reference::fields::{HEIGHT, LANES, LENGTH, MINUS, RECEIVERS, SOURCES, SURFACE};
+use reference::fields::{HEIGHT, LANES, LENGTH, MINUS, RECEIVERS, SOURCES, SURFACE, WALL_HEIGHT};
 use reference::record::Record;
 use reference::road::{Receiver, Source, Traffic};
 use reference::town::{surfaces_at, Draft, WIDE};
+use reference::wall::Wall;
 use std::path::Path;
 use std::process::ExitCode;
 
@@ -15,6 +16,15 @@ const CORNER: i64 = 5_000_000;
 const EDITS: usize = 20_000;
 const ASKS: usize = 200_000;
 const CUT_EDITS: usize = 2_000;
+const WALLED_EDITS: usize = 2_000;
+const WALL_EVERY: usize = 10;
+
+/// Walls, and the steps of the line on which they stand from one to the next: one to the north for
+/// four to the east, so that all are just on it, and some between them left open.
+const WALLS: i64 = 16;
+const WALL_STEP: i64 = 2187;
+const WALL_LENGTH: i64 = 2000;
+const _: () = assert!(4 * WALLS * WALL_STEP <= WIDE);
 
 fn main() -> ExitCode {
     let Some(folder) = std::env::args().nth(1) else {
@@ -34,7 +44,8 @@ fn write_all(folder: &Path) -> std::io::Result<()> {
     std::fs::write(folder.join("town.job"), town(&mut Chance::new(1)).bytes)?;
     std::fs::write(folder.join("edit.job"), edited(&mut Chance::new(2)))?;
     std::fs::write(folder.join("ask.job"), asked(&mut Chance::new(3)))?;
-    std::fs::write(folder.join("cut.job"), cut(&mut Chance::new(4)))
+    std::fs::write(folder.join("cut.job"), cut(&mut Chance::new(4)))?;
+    std::fs::write(folder.join("walls.job"), walled(&mut Chance::new(5)))
 }
 
 fn spot(chance: &mut Chance) -> (i64, i64) {
@@ -56,7 +67,7 @@ fn traffic(chance: &mut Chance) -> [Traffic; 3] {
 fn road(chance: &mut Chance, x: i64, y: i64) -> Source {
     let (car_speed, truck_speed) =
         chance.pick(&[(30, 30), (50, 50), (70, 60), (100, 80), (130, 80)]);
-    let walls = chance.pick(&[0, 0, 0, 0, 1, 2]);
+    let parallel_walls = chance.pick(&[0, 0, 0, 0, 1, 2]);
     Source {
         course: Course::uncut(x, y, chance.between(300, 2000)),
         several_lanes: chance.within(&LANES),
@@ -65,9 +76,9 @@ fn road(chance: &mut Chance, x: i64, y: i64) -> Source {
         surface: chance.between(SURFACE.least(), surfaces_at(car_speed)),
         gradient: chance.between(1, 80) + chance.pick(&[0, MINUS]),
         reflection: chance.pick(&[0, 0, 0, 1, 2]),
-        walls,
-        wall_height: if walls == 0 { 0 } else { 600 },
-        wall_spacing: if walls == 0 { 0 } else { 2200 },
+        parallel_walls,
+        parallel_height: if parallel_walls == 0 { 0 } else { 600 },
+        parallel_spacing: if parallel_walls == 0 { 0 } else { 2200 },
         traffic: traffic(chance),
     }
 }
@@ -156,6 +167,50 @@ fn cut(chance: &mut Chance) -> Vec<u8> {
         assert!(draft.put_if_taken(Record::WithdrawSource(slot)));
         place_some(&mut draft, slot, || long_road(chance));
         ask_any(&mut draft, chance);
+    }
+    draft.bytes
+}
+
+/// A wall of any height in its place on the line. No way meets two of them: they are all on one
+/// line, and do not touch.
+fn wall(chance: &mut Chance, number: i64) -> Wall {
+    let at = |steps: i64| (CORNER + 4 * steps, CORNER + WIDE * 3 / 8 + steps);
+    let first = number * WALL_STEP;
+    let ((x1, y1), (x2, y2)) = (at(first), at(first + WALL_LENGTH));
+    Wall::new(x1, y1, x2, y2, chance.between(300, WALL_HEIGHT.most()))
+}
+
+/// An uncut road in every other slot, a long one in the rest.
+fn any_road(chance: &mut Chance, slot: i64) -> Source {
+    if slot % 2 == 0 {
+        let (x, y) = spot(chance);
+        road(chance, x, y)
+    } else {
+        long_road(chance)
+    }
+}
+
+/// Receivers in every slot, roads of both kinds in every slot and a line of walls between them; then
+/// over and over a road withdrawn, another one placed there, and a question, and every so often a
+/// wall withdrawn and placed again with another height.
+fn walled(chance: &mut Chance) -> Vec<u8> {
+    let mut draft = receivers(chance);
+    for slot in 0..WALLS {
+        assert!(draft.put_if_taken(Record::PlaceWall(slot, wall(chance, slot))));
+    }
+    for slot in 0..SOURCES as i64 {
+        place_some(&mut draft, slot, || any_road(chance, slot));
+    }
+    for edit in 0..WALLED_EDITS {
+        let slot = chance.index(SOURCES) as i64;
+        assert!(draft.put_if_taken(Record::WithdrawSource(slot)));
+        place_some(&mut draft, slot, || any_road(chance, slot));
+        ask_any(&mut draft, chance);
+        if edit % WALL_EVERY == 0 {
+            let slot = chance.between(0, WALLS - 1);
+            assert!(draft.put_if_taken(Record::WithdrawWall(slot)));
+            assert!(draft.put_if_taken(Record::PlaceWall(slot, wall(chance, slot))));
+        }
     }
     draft.bytes
 }
