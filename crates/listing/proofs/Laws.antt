@@ -10,7 +10,7 @@ use borrow.Author.Tests.{ltb-true, ltb-false}
 use lib.Dec.{ltb}
 use lib.ListN.{length, getD, length-append, List·getD-append}
 use Rattle.answer.specs.declared.Refusal.{Refusal}
-use Rattle.answer.specs.declared.Refusal.the-variants.{Damaged, CutShort, UnknownKind, Leftover, Field, SlowSurface, QuietTruck, Taken, Vacant, TooNear, TooFar, TooLong, TooLoud}
+use Rattle.answer.specs.declared.Refusal.the-variants.{Damaged, CutShort, UnknownKind, Leftover, Field, SlowSurface, QuietTruck, Taken, Vacant, TooNear, TooFar, TooLong, TooLoud, TwoWalls}
 use Rattle.answer.specs.Table.{numberOf}
 use Rattle.index.specs.declared.Index.{Index}
 use Rattle.index.specs.declared.Index.the-variants.{Quiet, Tenths}
@@ -36,6 +36,7 @@ number-two (TooNear s) = refl
 number-two (TooFar s) = refl
 number-two (TooLong s) = refl
 number-two (TooLoud s) = refl
+number-two (TwoWalls s) = refl
 
 pub length-whole : (t : ℕ) → t < 2 ^ 32 → length (decimal (t / 10)) ≤ 9
 length-whole t h = length-decimal 8 (t / 10) (omega arith)

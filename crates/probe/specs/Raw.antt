@@ -1,4 +1,5 @@
--- A call as 48 bytes, most significant first: the kind, the slot (two bytes), and the fields of a source or a receiver, each as wide as its type.
+-- A call as 48 bytes, most significant first: the kind, the slot (two bytes), and the fields of a source, a receiver or a wall, each as wide
+-- as its type.
 -- The kinds are those of METHOD 3; one that is not listed is an ask.
 use Prim.Native.Nat.{ℕ, _+_, _*_}
 use mathlib.Core.List.{List, [], _∷_}
@@ -9,13 +10,14 @@ use Rattle.course.specs.declared.Piece.{Piece}
 use Rattle.course.specs.declared.Ends.{Ends}
 use Rattle.course.specs.declared.Course.{Course}
 use Rattle.course.specs.declared.Course.the-variants.{Uncut, Between}
+use Rattle.screen.specs.declared.Wall.{Wall}
 use Rattle.road.specs.declared.Receiver.{Receiver}
 use Rattle.road.specs.declared.Traffic.{Traffic}
 use Rattle.road.specs.declared.Source.{Source}
 use Rattle.daily.specs.declared.Daily.{Daily}
 use Rattle.codec.specs.declared.Counts.the-variants.{ByPeriod, ByDay}
 use Rattle.codec.specs.declared.Request.{Request}
-use Rattle.codec.specs.declared.Request.the-variants.{PlaceReceiver, WithdrawReceiver, PlaceSource, WithdrawSource, Ask}
+use Rattle.codec.specs.declared.Request.the-variants.{PlaceReceiver, WithdrawReceiver, PlaceSource, WithdrawSource, PlaceWall, WithdrawWall, Ask}
 
 abbrev pub one : List ℕ → ℕ → ℕ
 one s i = getD s i 0
@@ -62,12 +64,16 @@ rawReceiver s = record { x = four s 3; y = four s 7; height = two s 11 }
 abbrev pub rawDaily : List ℕ → Daily
 rawDaily s = record { class = one s 26; dtv = four s 27 }
 
-unfoldable pub callBy : ℕ → ℕ → Receiver → Piece → Daily → Request
-callBy kind slot r p d =
+-- a wall has its ends where a road has them, and its height where that of parallel walls is
+abbrev pub rawWall : List ℕ → Wall
+rawWall s = record { ends = rawEnds s; height = two s 22 }
+
+unfoldable pub callBy : ℕ → ℕ → Receiver → Piece → Daily → Wall → Request
+callBy kind slot r p d w =
     getD
     (Ask slot ∷ PlaceReceiver slot r ∷ WithdrawReceiver slot ∷ PlaceSource slot ByPeriod ∷ WithdrawSource slot ∷ Ask slot
-    ∷ PlaceSource slot (ByDay p d) ∷ PlaceSource slot ByPeriod ∷ [])
+    ∷ PlaceSource slot (ByDay p d) ∷ PlaceSource slot ByPeriod ∷ PlaceWall slot w ∷ WithdrawWall slot ∷ [])
     kind (Ask slot)
 
 abbrev pub callAt : List ℕ → Request
-callAt s = callBy (one s 0) (two s 1) (rawReceiver s) (rawPiece s) (rawDaily s)
+callAt s = callBy (one s 0) (two s 1) (rawReceiver s) (rawPiece s) (rawDaily s) (rawWall s)

@@ -1,5 +1,5 @@
 // A call as 48 bytes: the kind, the slot (two bytes), and the fields, each as wide as its type. A daily figure stands where traffic would,
-// the second end of a road where its length would, and the y of that in the last four bytes.
+// the second end of a road or a wall where a length would, and the y of that in the last four bytes.
 // So calls can be told that no record holds. A kind that is not listed is an ask.
 use course::Course;
 use course::Ends;
@@ -10,6 +10,7 @@ use record::Request;
 use road::Receiver;
 use road::Source;
 use road::Traffic;
+use screen::Wall;
 ghost use mathlib.Core.Path.{_≡_};
 ghost use Prim.Native.Nat.{_+_, _*_, _≤_};
 ghost use Rattle.probe.specs.Raw as spec;
@@ -130,6 +131,14 @@ fn daily(raw: &[u8; 48]) -> Daily
     Daily { class, dtv }
 }
 
+fn wall(raw: &[u8; 48]) -> Wall
+    ensures { λ r. ⌜ r ≡ spec.rawWall (now (raw .entry)) ⌝ }
+{
+    let ends = ends(raw);
+    let height = two(raw, 22);
+    Wall { ends, height }
+}
+
 pub fn of(raw: &[u8; 48]) -> Request
     ensures { λ r. ⌜ r ≡ spec.callAt (now (raw .entry)) ⌝ }
 {
@@ -142,6 +151,8 @@ pub fn of(raw: &[u8; 48]) -> Request
         4 => Request::WithdrawSource(slot),
         6 => Request::PlaceSource(slot, Counts::ByDay(piece(raw), daily(raw))),
         7 => Request::PlaceSource(slot, Counts::ByPeriod),
+        8 => Request::PlaceWall(slot, wall(raw)),
+        9 => Request::WithdrawWall(slot),
         _ => Request::Ask(slot),
     }
 }

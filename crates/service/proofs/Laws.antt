@@ -19,7 +19,7 @@ use Rattle.codec.proofs.Trips.{three-periods}
 use Rattle.store.specs.Store.{Book, damaged}
 use Rattle.undamaged.specs.declared.Answer.{Answer}
 use Rattle.undamaged.specs.declared.Answer.the-variants as answer
-use Rattle.undamaged.specs.Calls.{refuse, placeSource, withdrawSource, placeReceiver, withdrawReceiver, askReceiver}
+use Rattle.undamaged.specs.Calls.{refuse, placeSource, withdrawSource, placeReceiver, withdrawReceiver, placeWall, withdrawWall, askReceiver}
 use Rattle.book.specs.History.{RealCall, perform}
 use Rattle.undamaged.proofs.Entries.{on-damaged, on-sound}
 use Rattle.book.proofs.Theorems.{of-this-book}
@@ -34,6 +34,8 @@ real (request.WithdrawReceiver slot) s e = tt
 real (request.PlaceSource slot counts) s e = e
 real (request.WithdrawSource slot) s e = tt
 real (request.Ask slot) s e = tt
+real (request.PlaceWall slot w) s e = tt
+real (request.WithdrawWall slot) s e = tt
 
 abbrev at : Outcome → ℕ → Deed
 at o n = record { outcome = o; extent = n }
@@ -47,6 +49,8 @@ module _ (job store : List ℕ) where
   answer-damaged (told.Request (request.PlaceSource i counts)) s d = on-damaged (placeSource i s) store d
   answer-damaged (told.Request (request.WithdrawSource i)) s d = on-damaged (withdrawSource i) store d
   answer-damaged (told.Request (request.Ask j)) s d = on-damaged (askReceiver j) store d
+  answer-damaged (told.Request (request.PlaceWall k w)) s d = on-damaged (placeWall k w) store d
+  answer-damaged (told.Request (request.WithdrawWall k)) s d = on-damaged (withdrawWall k) store d
 
   pub on-damage : damaged store ≡ true → deed (told.Refused Damaged) (extentOf job) (answer.Refused Damaged, store) ≡ doneTo job store
   unfolding doneTo

@@ -20,7 +20,7 @@ use Rattle.undamaged.specs.declared.Answer.{Answer}
 use Rattle.undamaged.specs.declared.Answer.the-variants as answer
 use Rattle.undamaged.specs.Calls.{refuse, onStore}
 use Rattle.undamaged.specs.Calls as calls
-use Rattle.book.specs.History.{Call, PlaceSource, WithdrawSource, PlaceReceiver, WithdrawReceiver, Ask, perform}
+use Rattle.book.specs.History.{Call, PlaceSource, WithdrawSource, PlaceReceiver, WithdrawReceiver, PlaceWall, WithdrawWall, Ask, perform}
 use Rattle.service.specs.declared.Outcome.{Outcome}
 use Rattle.service.specs.declared.Outcome.the-variants.{Done, Levels, Refused}
 use Rattle.service.specs.declared.Deed.{Deed}
@@ -47,6 +47,8 @@ callOf (request.WithdrawReceiver slot) s = WithdrawReceiver slot
 callOf (request.PlaceSource slot counts) s = PlaceSource slot s
 callOf (request.WithdrawSource slot) s = WithdrawSource slot
 callOf (request.Ask slot) s = Ask slot
+callOf (request.PlaceWall slot w) s = PlaceWall slot w
+callOf (request.WithdrawWall slot) s = WithdrawWall slot
 
 -- its slot
 abbrev pub slotIn : Request → ℕ
@@ -55,6 +57,8 @@ slotIn (request.WithdrawReceiver slot) = slot
 slotIn (request.PlaceSource slot counts) = slot
 slotIn (request.WithdrawSource slot) = slot
 slotIn (request.Ask slot) = slot
+slotIn (request.PlaceWall slot w) = slot
+slotIn (request.WithdrawWall slot) = slot
 
 -- an answer of the book with the slot that was asked
 abbrev pub outcomeOf : ℕ → Answer → Outcome

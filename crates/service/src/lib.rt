@@ -36,6 +36,8 @@ fn slot(call: Request) -> u16
         Request::PlaceSource(slot, _) => slot,
         Request::WithdrawSource(slot) => slot,
         Request::Ask(slot) => slot,
+        Request::PlaceWall(slot, _) => slot,
+        Request::WithdrawWall(slot) => slot,
     }
 }
 
@@ -61,6 +63,8 @@ fn perform(steps: &[u32; 1000], store: &mut [u8], call: Request, source: Source)
         Request::PlaceSource(slot, _) => undamaged::place_source(steps, store, slot, source),
         Request::WithdrawSource(slot) => undamaged::withdraw_source(steps, store, slot),
         Request::Ask(slot) => undamaged::ask(steps, store, slot),
+        Request::PlaceWall(slot, w) => undamaged::place_wall(steps, store, slot, w),
+        Request::WithdrawWall(slot) => undamaged::withdraw_wall(steps, store, slot),
     }
 }
 

@@ -182,15 +182,15 @@ fn change_wall(steps: &[u32; 1000], store: &mut [u8], k: usize, w: Wall, adding:
 {
     let mut numbers = [0u64; fences::NUMBERS];
     let n = fences::changed(store, k, w, adding, &mut numbers);
-    let found = afresh::go_afresh(steps, &numbers[..n], store);
-    let stop = found.stop;
+    let renewed = afresh::go_afresh(steps, &numbers[..n], store);
+    let stop = renewed.stop;
     match stop {
         Stop::At(why) => Answer::Refused(why),
         Stop::Nowhere => {
-            if found.late {
+            if renewed.late {
                 return Answer::Refused(Refusal::Damaged);
             }
-            let seats = found.seats;
+            let seats = renewed.seats;
             round::write_seats(store, seats);
             write_wall(store, k, w, adding);
             Answer::Done

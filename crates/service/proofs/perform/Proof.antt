@@ -2,7 +2,7 @@
 use mathlib.Core.Path.{sym, ap, _∙_}
 use borrow.Author.Needs.{needs}
 use Rattle.codec.specs.declared.Request.{Request}
-use Rattle.undamaged.specs.Calls.{placeSource, withdrawSource, placeReceiver, withdrawReceiver, askReceiver}
+use Rattle.undamaged.specs.Calls.{placeSource, withdrawSource, placeReceiver, withdrawReceiver, placeWall, withdrawWall, askReceiver}
 use Rattle.book.specs.History.{perform}
 use Rattle.undamaged.proofs.Entries.{on-sound}
 use Rattle.service.specs.Service.{callOf}
@@ -38,6 +38,18 @@ enum-known-call-5 c = search needs
 
 ask-requires : tie.Need-ask-requires
 ask-requires c κs = search needs
+
+enum-known-call-6 : tie.Need-enum-known-call-6
+enum-known-call-6 c = search needs
+
+place-wall-requires : tie.Need-place-wall-requires
+place-wall-requires c κs = search needs
+
+enum-known-call-7 : tie.Need-enum-known-call-7
+enum-known-call-7 c = search needs
+
+withdraw-wall-requires : tie.Need-withdraw-wall-requires
+withdraw-wall-requires c κs = search needs
 
 same-length : tie.Need-same-length
 same-length c = search needs
@@ -94,6 +106,28 @@ returns-5 c =
     ∙ on-sound (askReceiver (v .0 .0)) (start .args .store .now) (start .pre .1)
     ∙ ap (λ (r : Request). perform (callOf r (start .args .source)) (start .args .store .now)) (sym (v .1))
 
+same-length-6 : tie.Need-same-length-6
+same-length-6 c = search needs
+
+returns-6 : tie.Need-returns-6
+returns-6 c =
+    let start = c .before .before .before .before .before .before .before .before in
+    let v = c .before .before .before .before .before .call6 .given in
+    c .before .before .place-wall .ensures .0
+    ∙ on-sound (placeWall (v .0 .0) (v .0 .1 .0)) (start .args .store .now) (start .pre .1)
+    ∙ ap (λ (r : Request). perform (callOf r (start .args .source)) (start .args .store .now)) (sym (v .1))
+
+same-length-7 : tie.Need-same-length-7
+same-length-7 c = search needs
+
+returns-7 : tie.Need-returns-7
+returns-7 c =
+    let start = c .before .before .before .before .before .before .before .before in
+    let v = c .before .before .before .before .before .call7 .given in
+    c .before .before .withdraw-wall .ensures .0
+    ∙ on-sound (withdrawWall (v .0 .0)) (start .args .store .now) (start .pre .1)
+    ∙ ap (λ (r : Request). perform (callOf r (start .args .source)) (start .args .store .now)) (sym (v .1))
+
 pub perform-spec : {M : Type 1} → statement M
 perform-spec =
     tie.close
@@ -108,6 +142,10 @@ perform-spec =
     withdraw-source-requires
     enum-known-call-5
     ask-requires
+    enum-known-call-6
+    place-wall-requires
+    enum-known-call-7
+    withdraw-wall-requires
     same-length
     returns
     same-length-2
@@ -117,4 +155,8 @@ perform-spec =
     same-length-4
     returns-4
     same-length-5
-    returns-5)
+    returns-5
+    same-length-6
+    returns-6
+    same-length-7
+    returns-7)
