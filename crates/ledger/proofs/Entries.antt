@@ -10,8 +10,9 @@ use lib.ListN.{getD}
 use Rattle.answer.specs.declared.Refusal.{Refusal}
 use Rattle.store.specs.declared.SourceSlot.{SourceSlot}
 use Rattle.store.specs.declared.Seat.{Seat}
-use Rattle.store.specs.Store.{sourceCount, receiverCount, damaged, bookOf, sourceAt, receiverAt, sourceSlotOf, seatOf, sourceSlotEntry, seatEntry, SourceStands, HeldStands}
-use Rattle.store.proofs.Laws.{source-slot-is, seat-is, sound-book}
+use Rattle.store.specs.declared.WallSlot.{WallSlot}
+use Rattle.store.specs.Store.{sourceCount, receiverCount, wallCount, damaged, bookOf, sourceAt, receiverAt, sourceSlotOf, seatOf, wallAt, wallSlotOf, sourceSlotEntry, seatEntry, wallSlotEntry, SourceStands, HeldStands}
+use Rattle.store.proofs.Laws.{source-slot-is, seat-is, wall-slot-is, sound-book}
 use Rattle.ledger.specs.declared.round.Stop.the-variants.{Nowhere, At}
 use Rattle.ledger.specs.Ledger.{stopOf}
 
@@ -42,6 +43,16 @@ module _ (s : List ℕ) (j : ℕ) (h : damaged s ≡ false) (l : j < receiverCou
 
   pub seat-stands : t .used ≡ true → HeldStands (t .held)
   seat-stands f = sound-book s h .receivers-stand j (t .held) (seat-used f)
+
+module _ (s : List ℕ) (k : ℕ) (h : damaged s ≡ false) (l : k < wallCount) (t : WallSlot) (e : t ≡ wallSlotOf (wallAt k s)) where
+  wall-slot-entry : getD (bookOf s .walls) k none ≡ wallSlotEntry t
+  wall-slot-entry = wall-slot-is s k h l ∙ ap wallSlotEntry (sym e)
+
+  pub wall-slot-free : t .used ≡ false → getD (bookOf s .walls) k none ≡ none
+  wall-slot-free f = wall-slot-entry ∙ ap (λ (b : Bool). cond b (some (t .wall)) none) f
+
+  pub wall-slot-used : t .used ≡ true → getD (bookOf s .walls) k none ≡ some (t .wall)
+  wall-slot-used f = wall-slot-entry ∙ ap (λ (b : Bool). cond b (some (t .wall)) none) f
 
 -- ---- where a walk over the other party stopped
 

@@ -91,12 +91,12 @@ module _ (b : Book) (h : SoundBook b) where
 
   -- after which source slot i holds o; after which wall slot k does
   changed : (c : Change) → KeepsSound c → (i : ℕ) (o : Option Source) → ((a : Source) → o ≡ some a → SourceStands a) → Keep (changeSource c i o b)
-  changed c k i o f = all-followed c k _ (λ m. sound-source (book (b .sources) (map (omap (follow c)) (b .receivers)) (b .walls)) i o m f)
+  changed c k i o f = all-followed c k (λ rs. book (set (b .sources) i o) rs (b .walls)) (λ m. sound-source (book (b .sources) (map (omap (follow c)) (b .receivers)) (b .walls)) i o m f)
 
   wall-changed : (k : ℕ) (o : Option Wall) → ((a : Wall) → o ≡ some a → WallStands a) → Keep (changeWall k o b)
   wall-changed k o f =
       let c = renewing (pairOf (present (set (b .walls) k o))) (present (b .sources)) in
-      all-followed c (renewing-sound _ (b .sources) (h .source-slots ∙ sym many-sources)) _
+      all-followed c (renewing-sound _ (b .sources) (h .source-slots ∙ sym many-sources)) (λ rs. book (b .sources) rs (set (b .walls) k o))
       (λ m. sound-wall (book (b .sources) (map (omap (follow c)) (b .receivers)) (b .walls)) k o m f)
 
   pub source-in : (i : ℕ) (s : Source) → length (s .traffic) ≡ 3 → Keep (placeSource i s b)

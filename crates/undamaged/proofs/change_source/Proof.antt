@@ -1,43 +1,59 @@
 -- `change_source` goes the round first and writes only if no receiver bars the change and every one can follow it. Assumes nothing.
-use mathlib.Core.Path.{sym, ap, ap₂, _∙_}
-use mathlib.Core.List.{List, map}
+use mathlib.Core.Path.{_≡_, refl, sym, ap, ap₂, _∙_, subst}
+use mathlib.Core.List.{List}
 use mathlib.Core.Option.{Option, none, some}
-use mathlib.Core.Bool.{Bool, cond, not}
+use mathlib.Core.Bool.{Bool, true, cond}
 use Prim.Native.Nat.{ℕ}
+use native.Mathlib.Omega.{arith}
 use borrow.Author.Needs.{needs}
 use lib.ListN.{set}
-use Rattle.answer.specs.declared.Refusal.{Refusal}
+use lib.Seq.{length-take-le}
+use Rattle.screen.specs.declared.Wall.{Wall}
 use Rattle.road.specs.declared.Source.{Source}
+use Rattle.road.specs.Reach.{pairOf}
 use Rattle.store.specs.declared.Held.{Held}
 use Rattle.store.specs.Store.{Book, book, bookOf, bookBytes}
-use Rattle.store.proofs.Laws.{sound-book}
-use Rattle.ledger.specs.Lists.{present, every, omap}
-use Rattle.ledger.specs.Changes.{Change, follow, barOf, changeBy}
-use Rattle.undamaged.specs.declared.Answer.{Answer}
-use Rattle.undamaged.specs.declared.Answer.the-variants.{Done}
-use Rattle.undamaged.specs.Calls.{change, told, unlessBarred, unlessLate}
-use Rattle.undamaged.proofs.Rounded.{changes-sound, change-barred, change-clear, change-fits, change-written, change-stand}
+use Rattle.store.proofs.Laws.{many-sources, sound-book}
+use Rattle.ledger.specs.Lists.{present}
+use Rattle.ledger.specs.Changes.{Change, changeBy, renewing}
+use Rattle.ledger.specs.Ledger.{Rounded, seated}
+use Rattle.undamaged.proofs.Rounded.{changes-sound, renewing-sound, change-stand, told-barred, told-late, told-done}
 use Rattle.undamaged.proofs.change_source.Statement.{statement}
 use Rattle.undamaged.proofs.change_source.Tie as tie
 
--- what a change says of a bar and of the sums
-comes-to : List ℕ → Change → ℕ → Option Source → Option Refusal → Bool → Answer × List ℕ
-comes-to s c i o b fits = told s (unlessBarred b (unlessLate fits (change (book (set (bookOf s .sources) i o) (map (omap (follow c)) (bookOf s .receivers))))))
+-- the change that is made, what the slot then holds, and the book after it
+abbrev made : tie.Start → Change
+made c = changeBy (present (bookOf (c .args .store .now) .walls)) (c .args .adding) (c .args .s)
 
--- the first receiver that bars it; whether every receiver can follow
-bar : List ℕ → Change → Option Refusal
-bar s c = barOf c (bookOf s .receivers)
+abbrev held : tie.Start → Option Source
+held c = cond (c .args .adding) (some (c .args .s)) none
 
-fits : List ℕ → Change → Bool
-fits s c = every (c .fits) (present (bookOf s .receivers))
+abbrev after : tie.Start → List (Option Held) → Book
+after c rs = let b = bookOf (c .args .store .now) in book (set (b .sources) (c .args .i) (held c)) rs (b .walls)
+
+-- the round was gone among the walls of the book
+rounded : (g : tie.After-go-round) → let s = g .before .before .before .before .before .before .before .before .before in Rounded (made s) (bookOf (s .args .store .now) .receivers) (g .go-round .result)
+rounded g =
+    let s = g .before .before .before .before .before .before .before .before .before in
+    subst (λ (ws : List Wall). Rounded (changeBy ws (s .args .adding) (s .args .s)) (bookOf (s .args .store .now) .receivers) (g .go-round .result)) (g .before .before .before .before .before .standing .ensures .walls) (g .go-round .ensures)
+
+slice-aggregate-standing : tie.Need-slice-aggregate-standing
+slice-aggregate-standing c = search needs
+
+standing-requires : tie.Need-standing-requires
+standing-requires c κs = search needs
 
 send-requires : tie.Need-send-requires
-send-requires c κs = let start = c .before in (start .pre .0, start .pre .3)
+send-requires c κs = search needs
+
+array-share-prefix-numbers : tie.Need-array-share-prefix-numbers
+array-share-prefix-numbers c = search needs
+
+slice-aggregate-go-round : tie.Need-slice-aggregate-go-round
+slice-aggregate-go-round c = sym (length-take-le _ _ (c .before .before .before .standing .ensures .part))
 
 go-round-requires : tie.Need-go-round-requires
-go-round-requires c κs =
-    let start = c .before .before .before in
-    (start .pre .0, start .pre .1, start .pre .3, c .before .send .ensures)
+go-round-requires c κs = search needs
 
 enum-known-stop : tie.Need-enum-known-stop
 enum-known-stop c = search needs
@@ -45,80 +61,56 @@ enum-known-stop c = search needs
 enum-told : tie.Need-enum-told
 enum-told c = search needs
 
--- the change, and what the slot then holds
-abbrev made : tie.Start → Change
-made c = changeBy (c .args .adding) (c .args .s)
-
-abbrev held : tie.Start → Option Source
-held c = cond (c .args .adding) (some (c .args .s)) none
-
 same-length : tie.Need-same-length
 same-length c = search needs
 
 returns : tie.Need-returns
-unfolding comes-to bar fits
 returns c =
     let g = c .before .before .before in
-    let start = g .before .before .before .before in
-    let s = start .args .store .now in
-    let nowhere = c .before .enum-told .given .1 in
-    let clear = change-clear (made start) (bookOf s) (g .go-round .result) (g .go-round .ensures) nowhere in
-    let late = change-fits (made start) (bookOf s) (g .go-round .result) (g .go-round .ensures) nowhere ∙ ap not (c .if1 .taken) in
-    ap₂ (comes-to s (made start) (start .args .i) (held start)) (sym clear) (sym late)
+    let start = g .before .before .before .before .before .before .before .before .before in
+    told-late (start .args .store .now) (made start) (after start) (g .go-round .result) (rounded g) (c .before .enum-told .given .1) (c .if1 .taken)
 
 write-seats-requires : tie.Need-write-seats-requires
 write-seats-requires c κs =
     let g = c .before .before .before .before .before in
-    let start = g .before .before .before .before in
+    let start = g .before .before .before .before .before .before .before .before .before in
     let s = start .args .store .now in
-    (start .pre .1, change-stand (made start) (bookOf s) (g .go-round .result) (g .go-round .ensures) (c .before .before .before .enum-told .given .1) (changes-sound (start .args .adding) (start .args .s)) (sound-book s (start .pre .1)) (c .before .before .if1 .left))
+    (start .pre .1, change-stand (made start) (bookOf s) (g .go-round .result) (rounded g) (c .before .before .before .enum-told .given .1) (changes-sound _ (start .args .adding) (start .args .s)) (sound-book s (start .pre .1)) (c .before .before .if1 .left))
 
 write-source-requires : tie.Need-write-source-requires
-write-source-requires c κs =
-    let w = c .before .before .before in
-    let start = w .before .before .before .before .before .before .before .before .before .before in
-    (w .write-seats .ensures .0, start .pre .2, start .pre .3)
+write-source-requires c κs = search needs
 
 same-length-2 : tie.Need-same-length-2
 same-length-2 c = search needs
 
 returns-2 : tie.Need-returns-2
-unfolding comes-to bar fits
 returns-2 c =
     let g = c .before .before .before in
-    let start = g .before .before .before .before in
-    let s = start .args .store .now in
-    let barred = change-barred (made start) (bookOf s) (g .go-round .result) (g .go-round .ensures) _ (c .before .stop .given .1) in
-    ap (λ (b : Option Refusal). comes-to s (made start) (start .args .i) (held start) b (fits s (made start))) (sym barred)
+    let start = g .before .before .before .before .before .before .before .before .before in
+    told-barred (start .args .store .now) (made start) (after start) (g .go-round .result) (rounded g) _ (c .before .stop .given .1)
 
 same-length-3 : tie.Need-same-length-3
 same-length-3 c = search needs
 
 returns-3 : tie.Need-returns-3
-unfolding comes-to bar fits
 returns-3 c =
     let p = c .before .before in
     let w = p .before .before .before .before in
     let g = w .before .before .before .before .before .before in
-    let start = g .before .before .before .before in
+    let start = g .before .before .before .before .before .before .before .before .before in
     let s = start .args .store .now in
-    let i = start .args .i in
-    let nowhere = w .before .before .before .before .enum-told .given .1 in
-    let timely = w .before .before .before .if1 .left in
-    let clear = change-clear (made start) (bookOf s) (g .go-round .result) (g .go-round .ensures) nowhere in
-    let all = change-fits (made start) (bookOf s) (g .go-round .result) (g .go-round .ensures) nowhere ∙ ap not timely in
-    let written = change-written (made start) (bookOf s) (g .go-round .result) (g .go-round .ensures) nowhere timely in
-    ap (λ (u : List ℕ). (Done, u))
-    (p .write-source .ensures
-    ∙ ap (λ (b : Book). bookBytes (book (set (b .sources) i (held start)) (b .receivers))) (w .write-seats .ensures .1)
-    ∙ ap (λ (l : List (Option Held)). bookBytes (book (set (bookOf s .sources) i (held start)) l)) written)
-    ∙ ap₂ (comes-to s (made start) i (held start)) (sym clear) (sym all)
+    told-done s (made start) (after start) (g .go-round .result) (rounded g) (w .before .before .before .before .enum-told .given .1) _ (w .before .before .before .if1 .left)
+    (p .write-source .ensures ∙ ap (λ (b : Book). bookBytes (book (set (b .sources) (start .args .i) (held start)) (b .receivers) (b .walls))) (w .write-seats .ensures .1))
 
 pub change-source-spec : {M : Type 1} → statement M
 change-source-spec =
     tie.close
     (tie.spec
+    slice-aggregate-standing
+    standing-requires
     send-requires
+    array-share-prefix-numbers
+    slice-aggregate-go-round
     go-round-requires
     enum-known-stop
     enum-told

@@ -5,13 +5,12 @@ use mathlib.Core.Option.{Option, some}
 use Prim.Native.Nat.{ℕ}
 use borrow.Author.Needs.{needs}
 use Rattle.road.specs.declared.Source.{Source}
-use Rattle.road.specs.Reach.{pairOf}
 use Rattle.store.specs.Store.{bookOf}
 use Rattle.store.proofs.Laws.{undamaged}
 use Rattle.ledger.specs.Changes.{coming}
 use Rattle.ledger.proofs.Entries.{source-slot-free, source-slot-used}
 use Rattle.undamaged.specs.declared.Answer.{Answer}
-use Rattle.undamaged.specs.Calls.{told, intoFree, changeSource}
+use Rattle.undamaged.specs.Calls.{told, intoFree, pairIn, changeSource}
 use Rattle.undamaged.proofs.enter_source.Statement.{statement}
 use Rattle.undamaged.proofs.enter_source.Tie as tie
 
@@ -19,7 +18,7 @@ use Rattle.undamaged.proofs.enter_source.Tie as tie
 abbrev in-slot : tie.Start → Option Source → Answer × List ℕ
 in-slot c o =
     let a = c .args in
-    told (a .store .now) (intoFree o (changeSource (coming pairOf (a .s)) (a .i) (some (a .s)) (bookOf (a .store .now))))
+    told (a .store .now) (intoFree o (changeSource (coming (pairIn (bookOf (a .store .now))) (a .s)) (a .i) (some (a .s)) (bookOf (a .store .now))))
 
 source-slot-requires : tie.Need-source-slot-requires
 source-slot-requires c κs = let start = c .before .before in (start .pre .2, undamaged (start .args .store .now) (start .pre .1) .0)

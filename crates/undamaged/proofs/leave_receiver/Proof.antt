@@ -18,7 +18,7 @@ use Rattle.undamaged.proofs.leave_receiver.Tie as tie
 
 -- what a withdrawal says of a slot
 out : List ℕ → ℕ → Option Held → Answer × List ℕ
-out s j o = told s (fromUsed o (λ (x : Held). change (book (bookOf s .sources) (set (bookOf s .receivers) j none))))
+out s j o = told s (fromUsed o (λ (x : Held). change (book (bookOf s .sources) (set (bookOf s .receivers) j none) (bookOf s .walls))))
 
 seat-requires : tie.Need-seat-requires
 seat-requires c κs = let p = c .before .before .pre in (p .1, undamaged (c .before .before .args .store .now) (p .0) .0)

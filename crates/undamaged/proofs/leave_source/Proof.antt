@@ -6,13 +6,12 @@ use Prim.Native.Nat.{ℕ}
 use borrow.Author.Needs.{needs}
 use borrow.Author.Tests.{not-true, not-false}
 use Rattle.road.specs.declared.Source.{Source}
-use Rattle.road.specs.Reach.{pairOf}
 use Rattle.store.specs.Store.{bookOf}
 use Rattle.store.proofs.Laws.{undamaged}
 use Rattle.ledger.specs.Changes.{going}
 use Rattle.ledger.proofs.Entries.{source-slot-free, source-slot-used, source-slot-stands}
 use Rattle.undamaged.specs.declared.Answer.{Answer}
-use Rattle.undamaged.specs.Calls.{told, fromUsed, changeSource}
+use Rattle.undamaged.specs.Calls.{told, fromUsed, pairIn, changeSource}
 use Rattle.undamaged.proofs.leave_source.Statement.{statement}
 use Rattle.undamaged.proofs.leave_source.Tie as tie
 
@@ -20,7 +19,7 @@ use Rattle.undamaged.proofs.leave_source.Tie as tie
 abbrev out : tie.Start → Option Source → Answer × List ℕ
 out c o =
     let a = c .args in
-    told (a .store .now) (fromUsed o (λ (s : Source). changeSource (going pairOf s) (a .i) none (bookOf (a .store .now))))
+    told (a .store .now) (fromUsed o (λ (s : Source). changeSource (going (pairIn (bookOf (a .store .now))) s) (a .i) none (bookOf (a .store .now))))
 
 source-slot-requires : tie.Need-source-slot-requires
 source-slot-requires c κs = let start = c .before .before in (start .pre .2, undamaged (start .args .store .now) (start .pre .1) .0)

@@ -29,7 +29,7 @@ returns c =
     let a = start .args in
     p .put-source .ensures
     ∙ set-source (a .store .now) (a .i) (some (a .s)) (λ k. p .before .before .before .slice-known .given k .fits) (start .pre .0) (start .pre .1)
-    ∙ ap (λ (b : Bool). bookBytes (book (set (bookOf (a .store .now) .sources) (a .i) (cond b (some (a .s)) none)) (bookOf (a .store .now) .receivers))) (sym (p .before .before .if1 .taken))
+    ∙ ap (λ (b : Bool). bookBytes (book (set (bookOf (a .store .now) .sources) (a .i) (cond b (some (a .s)) none)) (bookOf (a .store .now) .receivers) (bookOf (a .store .now) .walls))) (sym (p .before .before .if1 .taken))
 
 same-length-2 : tie.Need-same-length-2
 same-length-2 c = search needs
@@ -41,7 +41,7 @@ returns-2 c =
     let a = start .args in
     p .drop-source .ensures
     ∙ set-source (a .store .now) (a .i) none (λ k. p .before .before .before .slice-known .given k .fits) (start .pre .0) (start .pre .1)
-    ∙ ap (λ (b : Bool). bookBytes (book (set (bookOf (a .store .now) .sources) (a .i) (cond b (some (a .s)) none)) (bookOf (a .store .now) .receivers))) (sym (p .before .before .if1 .left))
+    ∙ ap (λ (b : Bool). bookBytes (book (set (bookOf (a .store .now) .sources) (a .i) (cond b (some (a .s)) none)) (bookOf (a .store .now) .receivers) (bookOf (a .store .now) .walls))) (sym (p .before .before .if1 .left))
 
 pub write-source-spec : {M : Type 1} → statement M
 write-source-spec =
