@@ -301,15 +301,18 @@ module _ (wall-slot : ℕ → Option Wall) (source-slot : ℕ → Option Source)
         ∙ bars-none (together amongThen (present S)) 0 R
         (all-map (HearsAll amongThen (present S)) _ (λ r. each-together amongThen r (present S)) (present R) hears)
 
+    all-fit : every (renewing amongThen (present S) .fits) (present (fill W S R .receivers)) ≡ true
+    all-fit =
+        every-all (λ (x : Held). true) (present (fill W S R .receivers))
+        (all-here (λ (x : Held). true ≡ true) (λ x. refl) (present (fill W S R .receivers)))
+
     change-wall : (N : Type 0) (Q : Answer → Type 0) (P : Book → Type 0) → (N → HeardThen) → (HeardThen → N × P (fill (set W k o) S R))
         → Fine N Q P (changeWall k o (fill W S R))
     change-wall N Q P need give =
         past-bars N Q P (barOf (renewing amongThen (present S)) (fill W S R .receivers)) _ (bars-apart _ 0 _) (λ n. no-bars (need n)) λ bars.
-        let got = give (heard-then bars) in
-        past-late N Q P _ _ (every-all (λ (x : Held). true) _ (all-here (λ (x : Held). true ≡ true) (λ x. refl) (present (fill W S R .receivers)))) (
-          got .0,
-          subst P (ap (λ rs. book S rs (set W k o)) (sym renewed)) (got .1),
-        )
+        let got : N × P (book S (map (omap (follow (renewing amongThen (present S)))) (fill W S R .receivers)) (set W k o)) =
+        subst (λ rs. N × P (book S rs (set W k o))) (sym renewed) (give (heard-then bars)) in
+        past-late N Q P _ _ all-fit got
 
     stand-then : All WallStands (present (o ∷ [])) → HeardThen → Standing W S R → Standing (set W k o) S R
     stand-then ok hears p = record {

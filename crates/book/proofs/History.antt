@@ -115,9 +115,9 @@ record Fits (k : List Call) (c : Call) (o : Answer × List ℕ) : Type 0 where
   rule : (accepted (o .0) ≡ true) ↔ Rule (fenceAfter k) (sourceAfter k) (seatAfter k) c
 
 -- the slots of all three parties, as they are called elsewhere
-all-standing : {V W : List (Option Wall)} {S T : List (Option Source)} {Q R : List (Option Receiver)}
-    → V ≡ W → S ≡ T → Q ≡ R → Standing V S Q → Standing W T R
-all-standing {W = W} {S = S} {Q = Q} w s r p = subst₂ (Standing W) s r (subst (λ l. Standing l S Q) w p)
+all-standing : {W X : List (Option Wall)} {S T : List (Option Source)} {Q R : List (Option Receiver)}
+    → W ≡ X → S ≡ T → Q ≡ R → Standing W S Q → Standing X T R
+all-standing {X = X} {S = S} {Q = Q} w s r p = subst₂ (Standing X) s r (subst (λ l. Standing l S Q) w p)
 
 holds-next : (b : List ℕ) (k : List Call) (c : Call) → Next (fenceAfter k) (sourceAfter k) (seatAfter k) c (bookOf b) → damaged b ≡ false
     → RealCall c → Holds b (c ∷ k)
