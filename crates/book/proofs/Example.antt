@@ -19,7 +19,7 @@ use Rattle.road.specs.Figures.{road, home}
 use Rattle.road.proofs.Figures.{near-allowed, far-allowed, home-allowed, near-pair}
 use Rattle.index.specs.Index.{ldenOf, lnightOf}
 use Rattle.index.specs.declared.Index.the-variants.{Quiet, Tenths}
-use Rattle.store.specs.Store.{lastSource, lastReceiver, sourceSlots, receiverSlots}
+use Rattle.store.specs.Store.{lastSource, lastReceiver, sourceSlots, receiverSlots, wallSlots}
 use Rattle.undamaged.specs.declared.Answer.{Answer}
 use Rattle.undamaged.specs.declared.Answer.the-variants.{Levels, Refused}
 use Rattle.ledger.specs.Lists.{present}
@@ -27,12 +27,12 @@ use Rattle.undamaged.specs.Calls.{told, placeSource}
 use Rattle.store.proofs.Laws.{many-sources}
 use Rattle.book.specs.History.{standingReceivers, Placing, source, receiver, calls, Rebuilds, Call, PlaceSource, WithdrawSource, PlaceReceiver}
 use Rattle.book.specs.History.{Ask, storeAfter, bookAfter, answerTo, Real, accepted, kept, lastAt, inSlots, standingSource, standingReceiver}
-use Rattle.book.specs.History.{standingSources, levelsOf, Hears, Rule}
+use Rattle.book.specs.History.{standingSources, standingWall, standingWalls, levelsOf, Hears, Rule}
 use Rattle.undamaged.proofs.Answered.{by-taken}
 use Rattle.book.proofs.Slots.{in-slots-at}
 use Rattle.book.proofs.Gates.{slot-passes}
 use Rattle.book.proofs.Laws.{StoreLaws, store-laws}
-use Rattle.book.proofs.History.{sourceAfter, seatAfter, on-store, accepts-by-rule, holds-what-stands}
+use Rattle.book.proofs.History.{fenceAfter, sourceAfter, seatAfter, on-store, accepts-by-rule, holds-what-stands}
 use Rattle.book.proofs.Rebuild.{keeps, rebuilt}
 
 -- ---- the two roads, and what the first brings to the point
@@ -51,14 +51,14 @@ energies : given (energyOf 6028) (energyOf 6028) (energyOf 5028) ≡ Levels (Ten
 unfolding energyOf loudnessOf levelOf upTo decades table firstQuarter secondQuarter thirdQuarter fourthQuarter
 energies = refl
 
-heard : Hears near home
+heard : Hears [] near home
 heard = ap isHeard near-pair
 
 -- L_DEN 61.6, L_Night 50.3
-near-levels : levelsOf (near ∷ []) home ≡ Levels (Tenths 616) (Tenths 503)
+near-levels : levelsOf [] (near ∷ []) home ≡ Levels (Tenths 616) (Tenths 503)
 near-levels = ap (λ (p : Pair). given (shareIn p 0) (shareIn p 1) (shareIn p 2)) near-pair ∙ energies
 
-silence : levelsOf [] home ≡ Levels Quiet Quiet
+silence : levelsOf [] [] home ≡ Levels Quiet Quiet
 unfolding loudnessOf
 silence = refl
 
@@ -79,10 +79,10 @@ drops c h k q e = rw (e, q)
 
 module _ (laws : StoreLaws) where
   -- a call that meets the rule is kept
-  by-rule : (h k : List Call) → Real h → kept h ≡ k → (c : Call) → Rule (sourceAfter k) (seatAfter k) c → kept (c ∷ h) ≡ c ∷ k
-  unfolding standingSource standingReceiver
+  by-rule : (h k : List Call) → Real h → kept h ≡ k → (c : Call) → Rule (fenceAfter k) (sourceAfter k) (seatAfter k) c → kept (c ∷ h) ≡ c ∷ k
+  unfolding standingSource standingReceiver standingWall
   by-rule h k real q c n =
-      keeps c h k q (accepts-by-rule laws h real c .1 (subst (λ l. Rule (sourceAfter l) (seatAfter l) c) (sym q) n))
+      keeps c h k q (accepts-by-rule laws h real c .1 (subst (λ l. Rule (fenceAfter l) (sourceAfter l) (seatAfter l) c) (sym q) n))
 
   -- a used slot is taken
   refuses : (h k : List Call) → Real h → kept h ≡ k → (i : ℕ) (s t : Source) → i < sourceSlots → sourceVerdict s ≡ Allowed
@@ -98,21 +98,21 @@ module _ (laws : StoreLaws) where
 
   -- what an ask is told
   tells : (h k : List Call) → Real h → kept h ≡ k → seatAfter k 5 ≡ some home
-      → answerTo h (Ask 5) ≡ levelsOf (present (inSlots sourceSlots (sourceAfter k))) home
-  unfolding standingReceiver standingSources standingSource receiverSlots
+      → answerTo h (Ask 5) ≡ levelsOf (present (inSlots wallSlots (fenceAfter k))) (present (inSlots sourceSlots (sourceAfter k))) home
+  unfolding standingReceiver standingSources standingSource standingWalls standingWall receiverSlots
   tells h k real q e =
       holds-what-stands laws h real .levels 5 home (omega arith) (ap (λ l. seatAfter l 5) q ∙ e)
-      ∙ ap (λ l. levelsOf (present (inSlots sourceSlots (sourceAfter l))) home) q
+      ∙ ap (λ l. levelsOf (present (inSlots wallSlots (fenceAfter l))) (present (inSlots sourceSlots (sourceAfter l))) home) q
 
   placed-kept : kept placed ≡ placed
-  unfolding kept lastAt inSlots sourceSlots receiverSlots
+  unfolding kept lastAt inSlots sourceSlots receiverSlots wallSlots
   placed-kept =
       by-rule (PlaceReceiver 5 home ∷ []) (PlaceReceiver 5 home ∷ []) (tt, tt)
       (by-rule [] [] tt refl (PlaceReceiver 5 home) (omega arith, home-allowed, refl, tt))
       (PlaceSource 0 near) (omega arith, near-allowed, refl, (heard, tt))
 
   pub asked : answerTo placed (Ask 5) ≡ Levels (Tenths 616) (Tenths 503)
-  unfolding lastAt inSlots sourceSlots
+  unfolding lastAt inSlots sourceSlots wallSlots
   asked = tells placed placed (refl, (tt, tt)) placed-kept refl ∙ near-levels
 
   asked-kept : kept (Ask 5 ∷ placed) ≡ Ask 5 ∷ placed
@@ -132,7 +132,7 @@ module _ (laws : StoreLaws) where
       (WithdrawSource 0) (omega arith, refl)
 
   pub asked-again : answerTo withdrawn (Ask 5) ≡ Levels Quiet Quiet
-  unfolding lastAt inSlots sourceSlots
+  unfolding lastAt inSlots sourceSlots wallSlots
   asked-again = tells withdrawn (WithdrawSource 0 ∷ Ask 5 ∷ placed) (tt, (refl, (tt, (refl, (tt, tt))))) withdrawn-kept refl ∙ silence
 
   -- ---- the same two into other slots, and the source first
@@ -142,15 +142,19 @@ module _ (laws : StoreLaws) where
   placed-seat = ap (λ l. seatAfter l 5) placed-kept
 
   elsewhere-rebuilds : Rebuilds placed elsewhere
-  unfolding standingSources standingSource standingReceivers standingReceiver lastAt inSlots sourceSlots receiverSlots
+  unfolding standingSources standingSource standingReceivers standingReceiver standingWalls standingWall lastAt inSlots sourceSlots receiverSlots wallSlots
   elsewhere-rebuilds =
       let s : standingSources placed ≡ near ∷ [] = ap (λ l. present (inSlots sourceSlots (sourceAfter l))) placed-kept in
       let r : standingReceivers placed ≡ home ∷ [] = ap (λ l. present (inSlots receiverSlots (seatAfter l))) placed-kept in
+      let w : standingWalls placed ≡ [] = ap (λ l. present (inSlots wallSlots (fenceAfter l))) placed-kept in
       record {
         same-sources = subst (List·Permᴰ (near ∷ [])) (sym s) (Permᴰ·refl (near ∷ []));
         same-receivers = subst (List·Permᴰ (home ∷ [])) (sym r) (Permᴰ·refl (home ∷ []));
+        same-walls = subst (List·Permᴰ []) (sym w) (Permᴰ·refl []);
         source-slots = (omega arith, tt, tt);
         receiver-slots = (omega arith, tt, tt);
+        wall-slots = tt;
+        walls-first = tt;
       }
 
   pub asked-elsewhere : answerTo (calls elsewhere) (Ask lastReceiver) ≡ Levels (Tenths 616) (Tenths 503)

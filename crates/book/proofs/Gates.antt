@@ -11,7 +11,9 @@ use borrow.Author.Tests.{le-leb}
 use Rattle.answer.specs.declared.Refusal.{Refusal}
 use Rattle.answer.specs.declared.Refusal.the-variants.{Damaged}
 use Rattle.answer.specs.Table.{numberOf, Between}
-use Rattle.road.specs.declared.Bar.the-variants.{Near, Far, Long, Loud}
+use Rattle.road.specs.declared.Source.{Source}
+use Rattle.road.specs.declared.Receiver.{Receiver}
+use Rattle.road.specs.declared.Bar.the-variants.{Near, Far, Long, Loud, Walls}
 use Rattle.road.specs.declared.Pair.{Pair}
 use Rattle.road.specs.declared.Pair.the-variants.{Heard, Barred}
 use Rattle.road.specs.declared.Verdict.{Verdict}
@@ -21,10 +23,11 @@ use Rattle.road.proofs.Judged.{slot-allowed, ByFields, slot-by, by-apart}
 use Rattle.store.specs.Store.{Book}
 use Rattle.undamaged.specs.declared.Answer.{Answer}
 use Rattle.ledger.specs.Lists.{omap, orBar, firstBar}
+use Rattle.ledger.specs.Changes.{onward, together}
 use Rattle.undamaged.specs.Calls.{used, Step, refuse, tell, change, allow, intoFree, fromUsed, unlessBarred}
 use Rattle.undamaged.specs.Calls.{unlessLate}
-use Rattle.road.specs.Pairs.{isHeard}
-use Rattle.undamaged.proofs.Sums.{heardAll, never}
+use Rattle.road.specs.Pairs.{Pairing, isHeard}
+use Rattle.undamaged.proofs.Sums.{heardAll, HearsAll, never}
 
 -- ---- gates: what the rule N allows comes past them and is fine; a refusal is not for damage, and is against the rule
 
@@ -59,7 +62,7 @@ module _ (N : Type 0) (Q : Answer → Type 0) (P : Book → Type 0) where
 
 abbrev pub ByPair : Option Refusal → Type 0
 ByPair none = Unit {0}
-ByPair (some why) = Between 10 13 (numberOf why)
+ByPair (some why) = Between 10 14 (numberOf why)
 
 module _ {A : Type 0} (pair : A → Pair) where
   pub bars-none : (j : ℕ) (l : List (Option A)) → heardAll pair l → firstBar pair j l ≡ none
@@ -72,7 +75,7 @@ module _ {A : Type 0} (pair : A → Pair) where
       go (Heard h) t e = e
       go (Barred b) t e = never cc
 
-  -- a bar is refused 10 to 13, and so not for damage
+  -- a bar is refused 10 to 14, and so not for damage
   pub bars-by : (j : ℕ) (l : List (Option A)) → ByPair (firstBar pair j l)
   unfolding firstBar
   bars-by j [] = tt
@@ -85,6 +88,7 @@ module _ {A : Type 0} (pair : A → Pair) where
       go (Barred Far) n = (omega arith, omega arith)
       go (Barred Long) n = (omega arith, omega arith)
       go (Barred Loud) n = (omega arith, omega arith)
+      go (Barred Walls) n = (omega arith, omega arith)
 
   pub bars-apart : (j : ℕ) (l : List (Option A)) → firstBar pair j l ≢ some Damaged
   bars-apart j l e = omega (arith, subst ByPair e (bars-by j l) .0)
@@ -95,6 +99,25 @@ unfolding firstBar
 bars-omap f pair j [] = refl
 bars-omap f pair j (none ∷ l) = bars-omap f pair (suc j) l
 bars-omap f pair j (some a ∷ l) = ap (orBar j (pair (f a))) (bars-omap f pair (suc j) l)
+
+-- all sources together are heard at a point where each is heard, and nowhere else
+module _ (pair : Pairing) (r : Receiver) where
+  pub each-together : (ss : List Source) → HearsAll pair ss r → isHeard (together pair ss r) ≡ true
+  each-together [] p = refl
+  each-together (s ∷ ss) p = go (pair s r) (p .0) (each-together ss (p .1))
+    where
+      go : (q : Pair) → isHeard q ≡ true → isHeard (together pair ss r) ≡ true → isHeard (onward q (together pair ss r)) ≡ true
+      go (Heard h) t e = e
+      go (Barred b) t e = never cc
+
+  pub together-each : (ss : List Source) → isHeard (together pair ss r) ≡ true → HearsAll pair ss r
+  together-each [] e = tt
+  together-each (s ∷ ss) e = go (pair s r) (together-each ss) e
+    where
+      go : (q : Pair) → (isHeard (together pair ss r) ≡ true → HearsAll pair ss r) → isHeard (onward q (together pair ss r)) ≡ true
+          → (isHeard q ≡ true) × HearsAll pair ss r
+      go (Heard h) ih e = (refl, ih e)
+      go (Barred b) ih e = never cc
 
 -- ---- verdicts
 

@@ -13,24 +13,25 @@ use Rattle.answer.specs.declared.Refusal.the-variants.{Damaged}
 use Rattle.answer.proofs.Laws.{one-is-damage, never-done}
 use Rattle.answer.specs.Settled.{Agree}
 use Rattle.answer.proofs.Settled.{settled}
+use Rattle.screen.specs.declared.Wall.{Wall}
 use Rattle.road.specs.declared.Source.{Source}
 use Rattle.road.specs.declared.Receiver.{Receiver}
 use Rattle.store.specs.declared.Held.{Held}
-use Rattle.store.specs.Store.{Book, damaged, bookOf, bookBytes, storeLength, clearedBytes, emptyBook, book, sourceSlots, receiverSlots, SourceStands}
-use Rattle.store.specs.Store.{SoundBook}
+use Rattle.store.specs.Store.{Book, damaged, bookOf, bookBytes, storeLength, clearedBytes, emptyBook, book, sourceSlots, receiverSlots, wallSlots}
+use Rattle.store.specs.Store.{SourceStands, WallStands, SoundBook}
 use Rattle.undamaged.specs.declared.Answer.{Answer}
 use Rattle.undamaged.specs.declared.Answer.the-variants.{Done, Levels, Refused}
 use Rattle.road.specs.Reach.{pairOf}
 use Rattle.ledger.specs.Lists.{omap, present, weigh}
 use Rattle.undamaged.specs.Calls.{numberIn, Step, refuse, tell, change, told, onStore, clearStore, placeSource, withdrawSource}
-use Rattle.undamaged.specs.Calls.{placeReceiver, withdrawReceiver, askReceiver}
+use Rattle.undamaged.specs.Calls.{placeReceiver, withdrawReceiver, placeWall, withdrawWall, askReceiver}
 use Rattle.undamaged.proofs.Sums.{HearsAll, never}
-use Rattle.book.specs.History.{Call, Clear, PlaceSource, WithdrawSource, PlaceReceiver, WithdrawReceiver, Ask, perform, storeAfter, RealCall, answerTo}
-use Rattle.book.specs.History.{Real, accepted, kept, sourceMove, receiverMove, allLeave, lastAt, inSlots, standingSource, standingReceiver}
-use Rattle.book.specs.History.{standingSources, standingReceivers, SumsOf, HoldsWhatStands, NeverLate, Rule, AcceptsByRule}
+use Rattle.book.specs.History.{Call, Clear, PlaceSource, WithdrawSource, PlaceReceiver, WithdrawReceiver, PlaceWall, WithdrawWall, Ask, perform}
+use Rattle.book.specs.History.{storeAfter, RealCall, answerTo, Real, accepted, kept, sourceMove, receiverMove, wallMove, allLeave, lastAt, inSlots}
+use Rattle.book.specs.History.{standingSource, standingReceiver, standingWall, standingSources, standingReceivers, standingWalls, SumsOf, HoldsWhatStands, NeverLate, Rule, AcceptsByRule}
 use Rattle.book.proofs.Slots.{all-none, omap-none, slots-moved, slots-none}
 use Rattle.book.proofs.Filled.{fill, ReceiverStands, Standing, fill-at, standing-sound, Next, Leads, place-source, withdraw-source}
-use Rattle.book.proofs.Filled.{place-receiver, withdraw-receiver, ask-receiver, ask-tells}
+use Rattle.book.proofs.Filled.{place-receiver, withdraw-receiver, place-wall, withdraw-wall, ask-receiver, ask-tells}
 use Rattle.book.proofs.Laws.{StoreLaws}
 
 -- ---- for any bytes: a contract that gives the outcome settles it, and a refused call leaves all as it was
@@ -78,6 +79,8 @@ refused-leaves (PlaceSource i s) b = step-leaves (placeSource i s) b
 refused-leaves (WithdrawSource i) b = step-leaves (withdrawSource i) b
 refused-leaves (PlaceReceiver j r) b = step-leaves (placeReceiver j r) b
 refused-leaves (WithdrawReceiver j) b = step-leaves (withdrawReceiver j) b
+refused-leaves (PlaceWall k w) b = step-leaves (placeWall k w) b
+refused-leaves (WithdrawWall k) b = step-leaves (withdrawWall k) b
 refused-leaves (Ask j) b = step-leaves (askReceiver j) b
 
 -- ---- bytes that hold what accepted calls leave
@@ -88,29 +91,41 @@ sourceAfter k = lastAt (map sourceMove k)
 abbrev pub seatAfter : List Call → ℕ → Option Receiver
 seatAfter k = lastAt (map receiverMove k)
 
+abbrev pub fenceAfter : List Call → ℕ → Option Wall
+fenceAfter k = lastAt (map wallMove k)
+
 abbrev pub sourcesAfter : List Call → List (Option Source)
 sourcesAfter k = inSlots sourceSlots (sourceAfter k)
 
 abbrev pub receiversAfter : List Call → List (Option Receiver)
 receiversAfter k = inSlots receiverSlots (seatAfter k)
 
+abbrev pub wallsAfter : List Call → List (Option Wall)
+wallsAfter k = inSlots wallSlots (fenceAfter k)
+
 pub record Holds (b : List ℕ) (k : List Call) : Type 0 where
   pub sound : damaged b ≡ false
-  pub filled : bookOf b ≡ fill (sourcesAfter k) (receiversAfter k)
-  pub standing : Standing (sourcesAfter k) (receiversAfter k)
+  pub filled : bookOf b ≡ fill (wallsAfter k) (sourcesAfter k) (receiversAfter k)
+  pub standing : Standing (wallsAfter k) (sourcesAfter k) (receiversAfter k)
 
 -- what one more call, after the accepted ones k, is answered and leaves
 record Fits (k : List Call) (c : Call) (o : Answer × List ℕ) : Type 0 where
   holds : RealCall c → Holds (o .1) (cond (accepted (o .0)) (c ∷ k) k)
   sound : o .0 ≢ Refused Damaged
-  rule : (accepted (o .0) ≡ true) ↔ Rule (sourceAfter k) (seatAfter k) c
+  rule : (accepted (o .0) ≡ true) ↔ Rule (fenceAfter k) (sourceAfter k) (seatAfter k) c
 
-holds-next : (b : List ℕ) (k : List Call) (c : Call) → Next (sourceAfter k) (seatAfter k) c (bookOf b) → damaged b ≡ false
+-- the slots of all three parties, as they are called elsewhere
+all-standing : {W X : List (Option Wall)} {S T : List (Option Source)} {Q R : List (Option Receiver)}
+    → W ≡ X → S ≡ T → Q ≡ R → Standing W S Q → Standing X T R
+all-standing {X = X} {S = S} {Q = Q} w s r p = subst₂ (Standing X) s r (subst (λ l. Standing l S Q) w p)
+
+holds-next : (b : List ℕ) (k : List Call) (c : Call) → Next (fenceAfter k) (sourceAfter k) (seatAfter k) c (bookOf b) → damaged b ≡ false
     → RealCall c → Holds b (c ∷ k)
 holds-next b k c n e real =
+    let w = slots-moved wallSlots (wallMove c) (map wallMove k) in
     let s = slots-moved sourceSlots (sourceMove c) (map sourceMove k) in
     let r = slots-moved receiverSlots (receiverMove c) (map receiverMove k) in
-    record { sound = e; filled = n .0 ∙ ap₂ fill s r; standing = subst₂ Standing s r (n .1 real) }
+    record { sound = e; filled = n .0 ∙ (λ i. fill (w i) (s i) (r i)); standing = all-standing w s r (n .1 real) }
 
 pub on-store : (f : Book → Step) (b : List ℕ) (x : Book) → damaged b ≡ false → bookOf b ≡ x → onStore f b ≡ told b (f x)
 unfolding onStore
@@ -124,17 +139,21 @@ sound-length b = go (eqb (length b) storeLength) _
     go true u e = refl
     go false u e = never cc
 
-nobody : Standing (replicate sourceSlots none) (replicate receiverSlots none)
+nobody : Standing (replicate wallSlots none) (replicate sourceSlots none) (replicate receiverSlots none)
 nobody = record {
+  wall-slots = length-replicate wallSlots none;
   source-slots = length-replicate sourceSlots none;
   seats = length-replicate receiverSlots none;
+  walls = all-none WallStands wallSlots;
   sources = all-none SourceStands sourceSlots;
   receivers = all-none ReceiverStands receiverSlots;
-  heard = all-none (HearsAll (present (replicate sourceSlots none))) receiverSlots;
+  heard = all-none (HearsAll (pairOf (present (replicate wallSlots none))) (present (replicate sourceSlots none))) receiverSlots;
 }
 
-empty-filled : emptyBook ≡ fill (replicate sourceSlots none) (replicate receiverSlots none)
-empty-filled = ap (book (replicate sourceSlots none)) (sym (omap-none (weigh pairOf (present (replicate sourceSlots none))) receiverSlots))
+empty-filled : emptyBook ≡ fill (replicate wallSlots none) (replicate sourceSlots none) (replicate receiverSlots none)
+empty-filled =
+    ap (λ rs. book (replicate sourceSlots none) rs (replicate wallSlots none))
+    (sym (omap-none (weigh (pairOf (present (replicate wallSlots none))) (present (replicate sourceSlots none))) receiverSlots))
 
 -- ---- what stands is what the slots hold
 
@@ -146,16 +165,20 @@ pub standing-receivers : (h : List Call) → standingReceivers h ≡ present (re
 unfolding standingReceivers standingReceiver
 standing-receivers h = refl
 
+pub standing-walls : (h : List Call) → standingWalls h ≡ present (wallsAfter (kept h))
+unfolding standingWalls standingWall
+standing-walls h = refl
+
 module _ (laws : StoreLaws) where
-  holds-cleared : (k : List Call) → replicate sourceSlots none ≡ sourcesAfter k → replicate receiverSlots none ≡ receiversAfter k
-      → Holds clearedBytes k
-  holds-cleared k s r = record {
+  holds-cleared : (k : List Call) → replicate wallSlots none ≡ wallsAfter k → replicate sourceSlots none ≡ sourcesAfter k
+      → replicate receiverSlots none ≡ receiversAfter k → Holds clearedBytes k
+  holds-cleared k w s r = record {
     sound = laws .cleared-sound;
-    filled = laws .cleared-book ∙ empty-filled ∙ ap₂ fill s r;
-    standing = subst₂ Standing s r nobody;
+    filled = laws .cleared-book ∙ empty-filled ∙ (λ i. fill (w i) (s i) (r i));
+    standing = all-standing w s r nobody;
   }
 
-  fits-told : (b : List ℕ) (k : List Call) (c : Call) → Holds b k → (x : Step) → Leads (sourceAfter k) (seatAfter k) c x → Fits k c (told b x)
+  fits-told : (b : List ℕ) (k : List Call) (c : Call) → Holds b k → (x : Step) → Leads (fenceAfter k) (sourceAfter k) (seatAfter k) c x → Fits k c (told b x)
   fits-told b k c H (refuse r) p = record {
     holds = λ real. H;
     sound = λ e. p .0 (let q : r ≡ Damaged = cc in q);
@@ -170,35 +193,38 @@ module _ (laws : StoreLaws) where
       }
   fits-told b k c H (change x) p = record {
     holds = λ real.
-        let ok : SoundBook x = subst SoundBook (sym (p .1 .0)) (standing-sound _ _ (p .1 .1 real)) in
+        let ok : SoundBook x = subst SoundBook (sym (p .1 .0)) (standing-sound _ _ _ (p .1 .1 real)) in
         holds-next (bookBytes x) k c (laws .book-back x ok ∙ p .1 .0, p .1 .1) (laws .book-sound x ok) real;
     sound = λ e. never cc;
     rule = (λ e. p .0, λ n. refl);
   }
 
   fits-step : (b : List ℕ) (k : List Call) (c : Call) → Holds b k → (f : Book → Step)
-      → Leads (sourceAfter k) (seatAfter k) c (f (fill (sourcesAfter k) (receiversAfter k))) → Fits k c (onStore f b)
+      → Leads (fenceAfter k) (sourceAfter k) (seatAfter k) c (f (fill (wallsAfter k) (sourcesAfter k) (receiversAfter k))) → Fits k c (onStore f b)
   fits-step b k c H f p =
-      subst (Fits k c) (sym (on-store f b _ (H .sound) (H .filled))) (fits-told b k c H (f (fill (sourcesAfter k) (receiversAfter k))) p)
+      subst (Fits k c) (sym (on-store f b _ (H .sound) (H .filled))) (fits-told b k c H (f (fill (wallsAfter k) (sourcesAfter k) (receiversAfter k))) p)
 
   fits : (b : List ℕ) (k : List Call) → Holds b k → (c : Call) → Fits k c (perform c b)
   unfolding clearStore
   fits b k H Clear =
+      let w = slots-moved wallSlots allLeave (map wallMove k) in
       let s = slots-moved sourceSlots allLeave (map sourceMove k) in
       let r = slots-moved receiverSlots allLeave (map receiverMove k) in
       rw (sound-length b (H .sound))
-      (record { holds = λ real. holds-cleared (Clear ∷ k) s r; sound = λ e. never cc; rule = (λ e. tt, λ n. refl) })
-  fits b k H (PlaceSource i s) = fits-step b k (PlaceSource i s) H (placeSource i s) (place-source _ _ i s (H .standing))
-  fits b k H (WithdrawSource i) = fits-step b k (WithdrawSource i) H (withdrawSource i) (withdraw-source _ _ i (H .standing))
-  fits b k H (PlaceReceiver j r) = fits-step b k (PlaceReceiver j r) H (placeReceiver j r) (place-receiver _ _ j r (H .standing))
-  fits b k H (WithdrawReceiver j) = fits-step b k (WithdrawReceiver j) H (withdrawReceiver j) (withdraw-receiver _ _ j (H .standing))
-  fits b k H (Ask j) = fits-step b k (Ask j) H (askReceiver j) (ask-receiver _ _ j (H .standing))
+      (record { holds = λ real. holds-cleared (Clear ∷ k) w s r; sound = λ e. never cc; rule = (λ e. tt, λ n. refl) })
+  fits b k H (PlaceSource i s) = fits-step b k (PlaceSource i s) H (placeSource i s) (place-source _ _ _ i s (H .standing))
+  fits b k H (WithdrawSource i) = fits-step b k (WithdrawSource i) H (withdrawSource i) (withdraw-source _ _ _ i (H .standing))
+  fits b k H (PlaceReceiver j r) = fits-step b k (PlaceReceiver j r) H (placeReceiver j r) (place-receiver _ _ _ j r (H .standing))
+  fits b k H (WithdrawReceiver j) = fits-step b k (WithdrawReceiver j) H (withdrawReceiver j) (withdraw-receiver _ _ _ j (H .standing))
+  fits b k H (PlaceWall i w) = fits-step b k (PlaceWall i w) H (placeWall i w) (place-wall _ _ _ i w (H .standing))
+  fits b k H (WithdrawWall i) = fits-step b k (WithdrawWall i) H (withdrawWall i) (withdraw-wall _ _ _ i (H .standing))
+  fits b k H (Ask j) = fits-step b k (Ask j) H (askReceiver j) (ask-receiver _ _ _ j (H .standing))
 
   -- ---- after every history
 
   pub holds : (h : List Call) → Real h → Holds (storeAfter h) (kept h)
   unfolding storeAfter kept
-  holds [] real = holds-cleared [] (slots-none sourceSlots) (slots-none receiverSlots)
+  holds [] real = holds-cleared [] (slots-none wallSlots) (slots-none sourceSlots) (slots-none receiverSlots)
   holds (c ∷ h) real = fits (storeAfter h) (kept h) (holds h (real .1)) c .holds (real .0)
 
   pub clear-forgets : (h : List Call) → Real h → (since : List Call) → storeAfter (since ++ Clear ∷ h) ≡ storeAfter since
@@ -211,33 +237,36 @@ module _ (laws : StoreLaws) where
   never-late h real c e = fits (storeAfter h) (kept h) (holds h real) c .sound (one-damaged (answerTo h c) e)
 
   pub accepts-by-rule : (h : List Call) → Real h → AcceptsByRule h
-  unfolding standingSource standingReceiver
+  unfolding standingSource standingReceiver standingWall
   accepts-by-rule h real c = fits (storeAfter h) (kept h) (holds h real) c .rule
 
   pub holds-what-stands : (h : List Call) → Real h → HoldsWhatStands h
-  unfolding standingSource standingReceiver standingSources
+  unfolding standingSource standingReceiver standingWall standingSources standingWalls
   holds-what-stands h real =
       let H = holds h real in
+      let W = wallsAfter (kept h) in
       let S = sourcesAfter (kept h) in
       let R = receiversAfter (kept h) in
       record {
         undamaged = H .sound;
         sources = ap (λ (b : Book). b .sources) (H .filled);
         receivers = ap (λ (b : Book). map (omap (λ x. x .who)) (b .receivers)) (H .filled) ∙ who R;
-        sums = λ j x e. same (getD R j none) x (sym (fill-at S R j) ∙ sym (ap (λ (b : Book). getD (b .receivers) j none) (H .filled)) ∙ e);
+        walls = ap (λ (b : Book). b .walls) (H .filled);
+        sums = λ j x e. same (getD R j none) x (sym (fill-at W S R j) ∙ sym (ap (λ (b : Book). getD (b .receivers) j none) (H .filled)) ∙ e);
         levels = λ j r q e.
             ap (λ (o : Answer × List ℕ). o .0)
-            (on-store (askReceiver j) (storeAfter h) (fill S R) (H .sound) (H .filled)
-            ∙ ap (told (storeAfter h)) (ask-tells (sourceAfter (kept h)) (seatAfter (kept h)) j r q e));
+            (on-store (askReceiver j) (storeAfter h) (fill W S R) (H .sound) (H .filled)
+            ∙ ap (told (storeAfter h)) (ask-tells (fenceAfter (kept h)) (sourceAfter (kept h)) (seatAfter (kept h)) j r q e));
       }
     where
-      who : (l : List (Option Receiver)) → map (omap (λ x. x .who)) (map (omap (weigh pairOf (standingSources h))) l) ≡ l
+      who : (l : List (Option Receiver)) → map (omap (λ x. x .who)) (map (omap (weigh (pairOf (standingWalls h)) (standingSources h))) l) ≡ l
       who [] = refl
       who (none ∷ l) = ap (λ (t : List (Option Receiver)). none ∷ t) (who l)
       who (some r ∷ l) = ap (λ (t : List (Option Receiver)). some r ∷ t) (who l)
 
-      same : (o : Option Receiver) (x : Held) → omap (weigh pairOf (standingSources h)) o ≡ some x → SumsOf (standingSources h) x
+      same : (o : Option Receiver) (x : Held) → omap (weigh (pairOf (standingWalls h)) (standingSources h)) o ≡ some x
+          → SumsOf (standingWalls h) (standingSources h) x
       same none x e = never cc
       same (some r) x e =
-          let q : weigh pairOf (standingSources h) r ≡ x = cc in
-          subst (SumsOf (standingSources h)) q (record { day = refl; evening = refl; night = refl })
+          let q : weigh (pairOf (standingWalls h)) (standingSources h) r ≡ x = cc in
+          subst (SumsOf (standingWalls h) (standingSources h)) q (record { day = refl; evening = refl; night = refl })

@@ -12,9 +12,10 @@ use Rattle.store.specs.Store.{Book, damaged, bookOf, storeLength, clearedBytes}
 use Rattle.store.proofs.Laws.{cleared, sound-book}
 use Rattle.undamaged.specs.declared.Answer.{Answer}
 use Rattle.undamaged.specs.declared.Answer.the-variants.{Done, Refused}
-use Rattle.undamaged.specs.Calls.{Step, placeSource, withdrawSource, placeReceiver, withdrawReceiver, askReceiver, onStore, clearStore}
-use Rattle.undamaged.proofs.Keeps.{Keep, source-in, source-out, receiver-in, receiver-out, asked, told-sound}
-use Rattle.book.specs.History.{Call, Clear, PlaceSource, WithdrawSource, PlaceReceiver, WithdrawReceiver, Ask, perform, RealCall}
+use Rattle.undamaged.specs.Calls.{Step, placeSource, withdrawSource, placeReceiver, withdrawReceiver, placeWall, withdrawWall, askReceiver, onStore, clearStore}
+use Rattle.undamaged.proofs.Keeps.{Keep, source-in, source-out, receiver-in, receiver-out, wall-in, wall-out, asked, told-sound}
+use Rattle.book.specs.History.{Call, Clear, PlaceSource, WithdrawSource, PlaceReceiver, WithdrawReceiver, PlaceWall, WithdrawWall, Ask, perform}
+use Rattle.book.specs.History.{RealCall}
 
 step-sound : (s : List ℕ) (f : Book → Step) → damaged s ≡ false → Keep (f (bookOf s)) → damaged (onStore f s .1) ≡ false
 unfolding onStore
@@ -34,6 +35,8 @@ stays-sound (PlaceSource i x) r s d = step-sound s (placeSource i x) d (source-i
 stays-sound (WithdrawSource i) r s d = step-sound s (withdrawSource i) d (source-out (bookOf s) (sound-book s d) i)
 stays-sound (PlaceReceiver j x) r s d = step-sound s (placeReceiver j x) d (receiver-in (bookOf s) (sound-book s d) j x)
 stays-sound (WithdrawReceiver j) r s d = step-sound s (withdrawReceiver j) d (receiver-out (bookOf s) (sound-book s d) j)
+stays-sound (PlaceWall k w) r s d = step-sound s (placeWall k w) d (wall-in (bookOf s) (sound-book s d) k w)
+stays-sound (WithdrawWall k) r s d = step-sound s (withdrawWall k) d (wall-out (bookOf s) (sound-book s d) k)
 stays-sound (Ask j) r s d = step-sound s (askReceiver j) d (asked (bookOf s) (sound-book s d) j)
 
 -- and a store of the right length that is cleared is undamaged

@@ -1,4 +1,4 @@
--- The numbers that a call may be answered, for any store: 5 to 7 by slot and fields, 8 and 9 by the slot's use, 10 to 13 by the pairs, and 1.
+-- The numbers that a call may be answered, for any store: 5 to 7 by slot and fields, 8 and 9 by the slot's use, 10 to 14 by the pairs, and 1.
 -- Assumes nothing.
 use mathlib.Core.Path.{refl}
 use mathlib.Core.Logic.{inl, inr}
@@ -8,25 +8,28 @@ use mathlib.Core.List.{List}
 use Prim.Native.Nat.{ℕ}
 use native.Mathlib.Omega.{arith}
 use lib.Dec.{eqb}
-use lib.ListN.{length, getD}
+use lib.ListN.{length, getD, set}
 use Rattle.answer.specs.declared.Refusal.{Refusal}
 use Rattle.answer.specs.declared.Refusal.the-variants.{Damaged}
 use Rattle.answer.specs.Table.{numberOf}
+use Rattle.screen.specs.declared.Wall.{Wall}
 use Rattle.road.specs.declared.Source.{Source}
 use Rattle.road.specs.declared.Receiver.{Receiver}
 use Rattle.road.specs.declared.Verdict.{Verdict}
 use Rattle.road.specs.declared.Verdict.the-variants.{Allowed, Refused as Barring}
 use Rattle.road.specs.Reach.{pairOf}
-use Rattle.road.specs.Judge.{sourceVerdict, receiverVerdict, slotVerdict}
-use Rattle.road.proofs.Judged.{ByFields, source-by, receiver-by, slot-by}
-use Rattle.store.specs.Store.{lastSource, lastReceiver, Book, damaged, bookOf, storeLength, clearedBytes}
+use Rattle.road.specs.Judge.{sourceVerdict, receiverVerdict, wallVerdict, slotVerdict}
+use Rattle.road.proofs.Judged.{ByFields, source-by, receiver-by, wall-by, slot-by}
+use Rattle.store.specs.Store.{lastSource, lastReceiver, lastWall, Book, damaged, bookOf, storeLength, clearedBytes}
 use Rattle.ledger.specs.Lists.{present, every, firstBar}
-use Rattle.ledger.specs.Changes.{Change, barOf, coming, going}
+use Rattle.ledger.specs.Changes.{Change, barOf, coming, going, renewing}
 use Rattle.undamaged.specs.declared.Answer.{Answer}
 use Rattle.undamaged.specs.declared.Answer.the-variants.{Done, Refused}
-use Rattle.undamaged.specs.Calls.{numberIn, Step, refuse, tell, change, allow, intoFree, fromUsed, unlessBarred, unlessLate, changeSource}
-use Rattle.undamaged.specs.Calls.{placeSource, withdrawSource, placeReceiver, withdrawReceiver, askReceiver, told, onStore, clearStore}
-use Rattle.book.specs.History.{Call, Clear, PlaceSource, WithdrawSource, PlaceReceiver, WithdrawReceiver, Ask, perform, BookNumber}
+use Rattle.undamaged.specs.Calls.{numberIn, Step, refuse, tell, change, allow, intoFree, fromUsed, unlessBarred, unlessLate, pairIn}
+use Rattle.undamaged.specs.Calls.{placeSource, withdrawSource, placeReceiver, withdrawReceiver, placeWall, withdrawWall, askReceiver, told, onStore}
+use Rattle.undamaged.specs.Calls.{clearStore}
+use Rattle.book.specs.History.{Call, Clear, PlaceSource, WithdrawSource, PlaceReceiver, WithdrawReceiver, PlaceWall, WithdrawWall, Ask, perform}
+use Rattle.book.specs.History.{BookNumber}
 use Rattle.book.proofs.Gates.{ByPair, bars-by}
 
 -- ---- gate after gate
@@ -62,34 +65,47 @@ given-late false k g = inr (inl refl)
 -- ---- the calls
 
 module _ (b : Book) where
-  given-change : (c : Change) (i : ℕ) (o : Option Source) → Given (changeSource c i o b)
-  given-change c i o =
+  -- whatever all receivers follow, and whatever it leaves
+  given-followed : (c : Change) (x : Book)
+      → Given (unlessBarred (barOf c (b .receivers)) (unlessLate (every (c .fits) (present (b .receivers))) (change x)))
+  given-followed c x =
       given-pairs (barOf c (b .receivers)) _ (bars-by _ 0 (b .receivers)) (given-late (every (c .fits) (present (b .receivers))) _ tt)
 
   source-in : (i : ℕ) (s : Source) → Given (placeSource i s b)
   unfolding placeSource
   source-in i s =
       given-fields (slotVerdict lastSource i (sourceVerdict s)) _ (slot-by lastSource i (sourceVerdict s) (source-by s))
-      (given-free (getD (b .sources) i none) _
-      (given-change (coming pairOf s) i (some s)))
+      (given-free (getD (b .sources) i none) _ (given-followed (coming (pairIn b) s) _))
 
   source-out : (i : ℕ) → Given (withdrawSource i b)
   unfolding withdrawSource
   source-out i =
       given-fields (slotVerdict lastSource i Allowed) _ (slot-by lastSource i Allowed tt)
-      (given-used (getD (b .sources) i none) _ λ s. given-change (going pairOf s) i none)
+      (given-used (getD (b .sources) i none) _ λ s. given-followed (going (pairIn b) s) _)
 
   receiver-in : (j : ℕ) (r : Receiver) → Given (placeReceiver j r b)
   unfolding placeReceiver
   receiver-in j r =
       given-fields (slotVerdict lastReceiver j (receiverVerdict r)) _ (slot-by lastReceiver j (receiverVerdict r) (receiver-by r))
       (given-free (getD (b .receivers) j none) _
-      (given-pairs (firstBar (λ (s : Source). pairOf s r) 0 (b .sources)) _ (bars-by _ 0 (b .sources)) tt))
+      (given-pairs (firstBar (λ (s : Source). pairIn b s r) 0 (b .sources)) _ (bars-by _ 0 (b .sources)) tt))
 
   receiver-out : (j : ℕ) → Given (withdrawReceiver j b)
   unfolding withdrawReceiver
   receiver-out j =
       given-fields (slotVerdict lastReceiver j Allowed) _ (slot-by lastReceiver j Allowed tt) (given-used (getD (b .receivers) j none) _ λ x. tt)
+
+  wall-in : (k : ℕ) (w : Wall) → Given (placeWall k w b)
+  unfolding placeWall
+  wall-in k w =
+      given-fields (slotVerdict lastWall k (wallVerdict w)) _ (slot-by lastWall k (wallVerdict w) (wall-by w))
+      (given-free (getD (b .walls) k none) _ (given-followed (renewing (pairOf (present (set (b .walls) k (some w)))) (present (b .sources))) _))
+
+  wall-out : (k : ℕ) → Given (withdrawWall k b)
+  unfolding withdrawWall
+  wall-out k =
+      given-fields (slotVerdict lastWall k Allowed) _ (slot-by lastWall k Allowed tt)
+      (given-used (getD (b .walls) k none) _ λ w. given-followed (renewing (pairOf (present (set (b .walls) k none))) (present (b .sources))) _)
 
   asked : (j : ℕ) → Given (askReceiver j b)
   unfolding askReceiver
@@ -121,4 +137,6 @@ numbers (PlaceSource i x) s = step-given (placeSource i x) s (source-in (bookOf 
 numbers (WithdrawSource i) s = step-given (withdrawSource i) s (source-out (bookOf s) i)
 numbers (PlaceReceiver j r) s = step-given (placeReceiver j r) s (receiver-in (bookOf s) j r)
 numbers (WithdrawReceiver j) s = step-given (withdrawReceiver j) s (receiver-out (bookOf s) j)
+numbers (PlaceWall k w) s = step-given (placeWall k w) s (wall-in (bookOf s) k w)
+numbers (WithdrawWall k) s = step-given (withdrawWall k) s (wall-out (bookOf s) k)
 numbers (Ask j) s = step-given (askReceiver j) s (asked (bookOf s) j)

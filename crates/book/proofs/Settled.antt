@@ -20,5 +20,11 @@ place-receiver-settled l a = settled _ _
 withdraw-receiver-settled : SettlesBoth (λ l a e. now (e .0)) proofs.withdraw_receiver.Reads.Post
 withdraw-receiver-settled l a = settled _ _
 
+place-wall-settled : SettlesBoth (λ l a e. now (e .0)) proofs.place_wall.Reads.Post
+place-wall-settled l a = settled _ _
+
+withdraw-wall-settled : SettlesBoth (λ l a e. now (e .0)) proofs.withdraw_wall.Reads.Post
+withdraw-wall-settled l a = settled _ _
+
 ask-settled : SettlesBoth (λ l a e. now (e .0)) proofs.ask.Reads.Post
 ask-settled l a = settled _ _

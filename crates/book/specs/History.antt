@@ -6,24 +6,25 @@ use mathlib.Core.Logic.{_≢_, _↔_, _⊎_}
 use mathlib.Core.Bool.{Bool, true, false, cond}
 use mathlib.Core.Option.{Option, none, some}
 use mathlib.Core.List.{List, [], _∷_, _++_, map, List·Memᴰ, List·Permᴰ}
-use lib.ListN.{length, getD}
+use lib.ListN.{length, getD, set}
 use lib.Dec.{eqb}
 use Rattle.answer.specs.Settled.{Agree}
 use Rattle.answer.specs.Table.{Between}
+use Rattle.screen.specs.declared.Wall.{Wall}
 use Rattle.road.specs.declared.Source.{Source}
 use Rattle.road.specs.declared.Receiver.{Receiver}
 use Rattle.road.specs.declared.Verdict.the-variants.{Allowed}
 use Rattle.road.specs.Reach.{pairOf}
 use Rattle.road.specs.Pairs.{isHeard, shareIn}
-use Rattle.road.specs.Judge.{sourceVerdict, receiverVerdict}
+use Rattle.road.specs.Judge.{sourceVerdict, receiverVerdict, wallVerdict}
 use Rattle.index.specs.Index.{ldenOf, lnightOf}
 use Rattle.store.specs.declared.Held.{Held}
-use Rattle.store.specs.Store.{Book, damaged, bookOf, clearedBytes, sourceSlots, receiverSlots}
+use Rattle.store.specs.Store.{Book, damaged, bookOf, clearedBytes, sourceSlots, receiverSlots, wallSlots}
 use Rattle.undamaged.specs.declared.Answer.{Answer}
 use Rattle.undamaged.specs.declared.Answer.the-variants.{Done, Levels, Refused}
 use Rattle.ledger.specs.Lists.{omap, present, All, sumOf}
-use Rattle.undamaged.specs.Calls.{numberIn, used, placeSource, withdrawSource, placeReceiver, withdrawReceiver, askReceiver}
-use Rattle.undamaged.specs.Calls.{onStore, clearStore}
+use Rattle.undamaged.specs.Calls.{numberIn, used, placeSource, withdrawSource, placeReceiver, withdrawReceiver, placeWall, withdrawWall}
+use Rattle.undamaged.specs.Calls.{askReceiver, onStore, clearStore}
 
 -- ---- a history: any calls, the latest first, refused ones among them
 
@@ -33,6 +34,8 @@ pub data Call : Type 0 where
   WithdrawSource : ℕ → Call
   PlaceReceiver : ℕ → Receiver → Call
   WithdrawReceiver : ℕ → Call
+  PlaceWall : ℕ → Wall → Call
+  WithdrawWall : ℕ → Call
   Ask : ℕ → Call
 
 -- what a call answers and leaves of a store: the very definitions that the contracts cite
@@ -42,6 +45,8 @@ perform (PlaceSource i s) b = onStore (placeSource i s) b
 perform (WithdrawSource i) b = onStore (withdrawSource i) b
 perform (PlaceReceiver j r) b = onStore (placeReceiver j r) b
 perform (WithdrawReceiver j) b = onStore (withdrawReceiver j) b
+perform (PlaceWall k w) b = onStore (placeWall k w) b
+perform (WithdrawWall k) b = onStore (withdrawWall k) b
 perform (Ask j) b = onStore (askReceiver j) b
 
 -- the store after a history that began with a cleared one
@@ -64,6 +69,8 @@ RealCall (PlaceSource i s) = length (s .traffic) ≡ 3
 RealCall (WithdrawSource i) = Unit {0}
 RealCall (PlaceReceiver j r) = Unit {0}
 RealCall (WithdrawReceiver j) = Unit {0}
+RealCall (PlaceWall k w) = Unit {0}
+RealCall (WithdrawWall k) = Unit {0}
 RealCall (Ask j) = Unit {0}
 
 -- the histories that code can make
@@ -95,6 +102,8 @@ sourceMove (PlaceSource i s) = enter i s
 sourceMove (WithdrawSource i) = leave i
 sourceMove (PlaceReceiver j r) = still
 sourceMove (WithdrawReceiver j) = still
+sourceMove (PlaceWall k w) = still
+sourceMove (WithdrawWall k) = still
 sourceMove (Ask j) = still
 
 abbrev pub receiverMove : Call → Move Receiver
@@ -103,7 +112,19 @@ receiverMove (PlaceSource i s) = still
 receiverMove (WithdrawSource i) = still
 receiverMove (PlaceReceiver j r) = enter j r
 receiverMove (WithdrawReceiver j) = leave j
+receiverMove (PlaceWall k w) = still
+receiverMove (WithdrawWall k) = still
 receiverMove (Ask j) = still
+
+abbrev pub wallMove : Call → Move Wall
+wallMove Clear = allLeave
+wallMove (PlaceSource i s) = still
+wallMove (WithdrawSource i) = still
+wallMove (PlaceReceiver j r) = still
+wallMove (WithdrawReceiver j) = still
+wallMove (PlaceWall k w) = enter k w
+wallMove (WithdrawWall k) = leave k
+wallMove (Ask j) = still
 
 module _ {A : Type 0} where
   -- who is in slot i after these moves, the latest first
@@ -126,6 +147,9 @@ standingSource h i = lastAt (map sourceMove (kept h)) i
 unfoldable pub standingReceiver : List Call → ℕ → Option Receiver
 standingReceiver h j = lastAt (map receiverMove (kept h)) j
 
+unfoldable pub standingWall : List Call → ℕ → Option Wall
+standingWall h k = lastAt (map wallMove (kept h)) k
+
 -- and in all of them, from the lowest slot on
 unfoldable pub standingSources : List Call → List Source
 standingSources h = present (inSlots sourceSlots (standingSource h))
@@ -133,28 +157,33 @@ standingSources h = present (inSlots sourceSlots (standingSource h))
 unfoldable pub standingReceivers : List Call → List Receiver
 standingReceivers h = present (inSlots receiverSlots (standingReceiver h))
 
--- the energy that a receiver gets from sources in one period: 0 day, 1 evening, 2 night
-abbrev pub total : List Source → Receiver → ℕ → ℕ
-total ss r period = sumOf (λ s. shareIn (pairOf s r) period) ss
+unfoldable pub standingWalls : List Call → List Wall
+standingWalls h = present (inSlots wallSlots (standingWall h))
+
+-- the energy that a receiver gets, among walls, from sources in one period: 0 day, 1 evening, 2 night
+abbrev pub total : List Wall → List Source → Receiver → ℕ → ℕ
+total ws ss r period = sumOf (λ s. shareIn (pairOf ws s r) period) ss
 
 -- ---- first theorem: after every history the store holds just what stands, each receiver with the sums of what stands
 
-pub record SumsOf (ss : List Source) (x : Held) : Type 0 where
-  pub day : x .sums .day ≡ total ss (x .who) 0
-  pub evening : x .sums .evening ≡ total ss (x .who) 1
-  pub night : x .sums .night ≡ total ss (x .who) 2
+pub record SumsOf (ws : List Wall) (ss : List Source) (x : Held) : Type 0 where
+  pub day : x .sums .day ≡ total ws ss (x .who) 0
+  pub evening : x .sums .evening ≡ total ws ss (x .who) 1
+  pub night : x .sums .night ≡ total ws ss (x .who) 2
 
 -- what an ask ought to answer
-abbrev pub levelsOf : List Source → Receiver → Answer
-levelsOf ss r = Levels (ldenOf (total ss r 0) (total ss r 1) (total ss r 2)) (lnightOf (total ss r 2))
+abbrev pub levelsOf : List Wall → List Source → Receiver → Answer
+levelsOf ws ss r = Levels (ldenOf (total ws ss r 0) (total ws ss r 1) (total ws ss r 2)) (lnightOf (total ws ss r 2))
 
 pub record HoldsWhatStands (h : List Call) : Type 0 where
   pub undamaged : damaged (storeAfter h) ≡ false
   -- slot by slot
   pub sources : bookAfter h .sources ≡ inSlots sourceSlots (standingSource h)
   pub receivers : map (omap (λ x. x .who)) (bookAfter h .receivers) ≡ inSlots receiverSlots (standingReceiver h)
-  pub sums : (j : ℕ) (x : Held) → getD (bookAfter h .receivers) j none ≡ some x → SumsOf (standingSources h) x
-  pub levels : (j : ℕ) (r : Receiver) → j < receiverSlots → standingReceiver h j ≡ some r → answerTo h (Ask j) ≡ levelsOf (standingSources h) r
+  pub walls : bookAfter h .walls ≡ inSlots wallSlots (standingWall h)
+  pub sums : (j : ℕ) (x : Held) → getD (bookAfter h .receivers) j none ≡ some x → SumsOf (standingWalls h) (standingSources h) x
+  pub levels : (j : ℕ) (r : Receiver) → j < receiverSlots → standingReceiver h j ≡ some r
+      → answerTo h (Ask j) ≡ levelsOf (standingWalls h) (standingSources h) r
 
 -- ---- second theorem: no history meets damage, found before all else or after it
 
@@ -163,25 +192,45 @@ NeverLate h = (c : Call) → numberIn (answerTo h c) ≢ 1
 
 -- ---- third theorem: what stands decides which calls are accepted
 
--- no bar between them
-abbrev pub Hears : Source → Receiver → Type 0
-Hears s r = isHeard (pairOf s r) ≡ true
+-- among these walls, no bar between them
+abbrev pub Hears : List Wall → Source → Receiver → Type 0
+Hears ws s r = isHeard (pairOf ws s r) ≡ true
 
--- what a call has to meet, where `source-slot` and `seat` say who stands in each slot
-abbrev pub Rule : (ℕ → Option Source) → (ℕ → Option Receiver) → Call → Type 0
-Rule source-slot seat Clear = Unit {0}
-Rule source-slot seat (PlaceSource i s) =
-    (i < sourceSlots) × (sourceVerdict s ≡ Allowed) × (source-slot i ≡ none) × All (λ r. Hears s r) (present (inSlots receiverSlots seat))
-Rule source-slot seat (WithdrawSource i) = (i < sourceSlots) × (used (source-slot i) ≡ true)
-Rule source-slot seat (PlaceReceiver j r) =
-    (j < receiverSlots) × (receiverVerdict r ≡ Allowed) × (seat j ≡ none) × All (λ s. Hears s r) (present (inSlots sourceSlots source-slot))
-Rule source-slot seat (WithdrawReceiver j) = (j < receiverSlots) × (used (seat j) ≡ true)
-Rule source-slot seat (Ask j) = (j < receiverSlots) × (used (seat j) ≡ true)
+-- nor between any of these sources and any of these receivers
+abbrev pub AllHear : List Wall → List Source → List Receiver → Type 0
+AllHear ws ss rs = All (λ r. All (λ s. Hears ws s r) ss) rs
+
+-- what a call has to meet, where `wall-slot`, `source-slot` and `seat` say who stands in each slot
+module _ (wall-slot : ℕ → Option Wall) (source-slot : ℕ → Option Source) (seat : ℕ → Option Receiver) where
+  -- the sources and the receivers that stand
+  abbrev pub sourcesNow : List Source
+  sourcesNow = present (inSlots sourceSlots source-slot)
+
+  abbrev pub receiversNow : List Receiver
+  receiversNow = present (inSlots receiverSlots seat)
+
+  -- the walls that stand, and those that would, were wall slot k to hold o
+  abbrev pub wallsNow : List Wall
+  wallsNow = present (inSlots wallSlots wall-slot)
+
+  abbrev pub wallsThen : ℕ → Option Wall → List Wall
+  wallsThen k o = present (set (inSlots wallSlots wall-slot) k o)
+
+  abbrev pub Rule : Call → Type 0
+  Rule Clear = Unit {0}
+  Rule (PlaceSource i s) = (i < sourceSlots) × (sourceVerdict s ≡ Allowed) × (source-slot i ≡ none) × All (λ r. Hears wallsNow s r) receiversNow
+  Rule (WithdrawSource i) = (i < sourceSlots) × (used (source-slot i) ≡ true)
+  Rule (PlaceReceiver j r) = (j < receiverSlots) × (receiverVerdict r ≡ Allowed) × (seat j ≡ none) × All (λ s. Hears wallsNow s r) sourcesNow
+  Rule (WithdrawReceiver j) = (j < receiverSlots) × (used (seat j) ≡ true)
+  Rule (PlaceWall k w) =
+      (k < wallSlots) × (wallVerdict w ≡ Allowed) × (wall-slot k ≡ none) × AllHear (wallsThen k (some w)) sourcesNow receiversNow
+  Rule (WithdrawWall k) = (k < wallSlots) × (used (wall-slot k) ≡ true) × AllHear (wallsThen k none) sourcesNow receiversNow
+  Rule (Ask j) = (j < receiverSlots) × (used (seat j) ≡ true)
 
 abbrev pub AcceptsByRule : List Call → Type 0
-AcceptsByRule h = (c : Call) → (accepted (answerTo h c) ≡ true) ↔ Rule (standingSource h) (standingReceiver h) c
+AcceptsByRule h = (c : Call) → (accepted (answerTo h c) ≡ true) ↔ Rule (standingWall h) (standingSource h) (standingReceiver h) c
 
--- ---- fourth theorem: what stands, placed anew in any order and into any slots, is accepted and sounds the same
+-- ---- fourth theorem: what stands, placed anew into any slots, the walls first and else in any order, is accepted and sounds the same
 
 -- into a slot, an entry
 pub record Put (A : Type 0) : Type 0 where
@@ -191,10 +240,12 @@ pub record Put (A : Type 0) : Type 0 where
 pub data Placing : Type 0 where
   source : Put Source → Placing
   receiver : Put Receiver → Placing
+  wall : Put Wall → Placing
 
 abbrev pub asCall : Placing → Call
 asCall (source x) = PlaceSource (x .slot) (x .entry)
 asCall (receiver x) = PlaceReceiver (x .slot) (x .entry)
+asCall (wall x) = PlaceWall (x .slot) (x .entry)
 
 -- placings as a history, the last of the list done first
 abbrev pub calls : List Placing → List Call
@@ -204,11 +255,26 @@ abbrev pub sourcesIn : List Placing → List (Put Source)
 sourcesIn [] = []
 sourcesIn (source x ∷ ks) = x ∷ sourcesIn ks
 sourcesIn (receiver x ∷ ks) = sourcesIn ks
+sourcesIn (wall x ∷ ks) = sourcesIn ks
 
 abbrev pub receiversIn : List Placing → List (Put Receiver)
 receiversIn [] = []
 receiversIn (source x ∷ ks) = receiversIn ks
 receiversIn (receiver x ∷ ks) = x ∷ receiversIn ks
+receiversIn (wall x ∷ ks) = receiversIn ks
+
+abbrev pub wallsIn : List Placing → List (Put Wall)
+wallsIn [] = []
+wallsIn (source x ∷ ks) = wallsIn ks
+wallsIn (receiver x ∷ ks) = wallsIn ks
+wallsIn (wall x ∷ ks) = x ∷ wallsIn ks
+
+-- before a wall, neither a source nor a receiver is placed: what is placed before it stands behind it in the list
+abbrev pub WallsFirst : List Placing → Type 0
+WallsFirst [] = Unit {0}
+WallsFirst (source x ∷ ks) = WallsFirst ks
+WallsFirst (receiver x ∷ ks) = WallsFirst ks
+WallsFirst (wall x ∷ ks) = (sourcesIn ks ≡ []) × (receiversIn ks ≡ [])
 
 module _ {A : Type 0} where
   abbrev pub entriesOf : List (Put A) → List A
@@ -219,12 +285,15 @@ module _ {A : Type 0} where
   Apart n [] = Unit {0}
   Apart n (x ∷ l) = (x .slot < n) × All (λ y. x .slot ≢ y .slot) l × Apart n l
 
--- the placings ks are a rearrangement of just what stands after h, into slots of their own
+-- the placings ks are a rearrangement of just what stands after h, into slots of their own, the walls first
 pub record Rebuilds (h : List Call) (ks : List Placing) : Type 0 where
   pub same-sources : List·Permᴰ (entriesOf (sourcesIn ks)) (standingSources h)
   pub same-receivers : List·Permᴰ (entriesOf (receiversIn ks)) (standingReceivers h)
+  pub same-walls : List·Permᴰ (entriesOf (wallsIn ks)) (standingWalls h)
   pub source-slots : Apart sourceSlots (sourcesIn ks)
   pub receiver-slots : Apart receiverSlots (receiversIn ks)
+  pub wall-slots : Apart wallSlots (wallsIn ks)
+  pub walls-first : WallsFirst ks
 
 -- each call is accepted in its turn
 abbrev pub AllAccepted : List Call → Type 0
@@ -239,7 +308,7 @@ pub record Rebuilt (h : List Call) (ks : List Placing) : Type 0 where
   pub same-levels : (x : Put Receiver) (j : ℕ) → List·Memᴰ x (receiversIn ks) → j < receiverSlots → standingReceiver h j ≡ some (x .entry)
       → answerTo (calls ks) (Ask (x .slot)) ≡ answerTo h (Ask j)
 
--- such placings there are: each into the slot where it stands
+-- such placings there are: each into the slot where it stands, the walls last in the list and so placed first
 module _ {A : Type 0} where
   abbrev pub inPlace : ℕ → List (Option A) → List (Put A)
   inPlace i [] = []
@@ -249,12 +318,12 @@ module _ {A : Type 0} where
 unfoldable pub anew : List Call → List Placing
 anew h =
     map source (inPlace 0 (inSlots sourceSlots (standingSource h)))
-    ++ map receiver (inPlace 0 (inSlots receiverSlots (standingReceiver h)))
+    ++ (map receiver (inPlace 0 (inSlots receiverSlots (standingReceiver h))) ++ map wall (inPlace 0 (inSlots wallSlots (standingWall h))))
 
--- ---- what numbers the book may answer: done 0, damage 1, and 5 to 13
+-- ---- what numbers the book may answer: done 0, damage 1, and 5 to 14
 
 abbrev pub BookNumber : ℕ → Type 0
-BookNumber n = (n ≡ 0) ⊎ ((n ≡ 1) ⊎ Between 5 13 n)
+BookNumber n = (n ≡ 0) ⊎ ((n ≡ 1) ⊎ Between 5 14 n)
 
 -- ---- all together: for every history that code can make; the last ones, for any bytes at all
 

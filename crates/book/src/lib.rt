@@ -1,11 +1,12 @@
-// The book: sources and receivers in a store that the caller lends, and the calls on it.
+// The book: sources, receivers and noise walls in a store that the caller lends, and the calls on it.
 // What each call answers and leaves, for every store, is a definition of undamaged/specs/Calls.antt; no call here requires anything.
 use answer::Refusal;
 use road::Receiver;
 use road::Source;
+use screen::Wall;
 pub use undamaged::Answer;
 ghost use mathlib.Core.Path.{_≡_};
-ghost use Rattle.undamaged.specs.Calls.{onStore, clearStore, placeSource, withdrawSource, placeReceiver, withdrawReceiver, askReceiver};
+ghost use Rattle.undamaged.specs.Calls.{onStore, clearStore, placeSource, withdrawSource, placeReceiver, withdrawReceiver, placeWall, withdrawWall, askReceiver};
 
 // Makes a store of the right length a book with nothing in it.
 pub fn clear(store: &mut [u8]) -> Answer
@@ -60,6 +61,28 @@ pub fn withdraw_receiver(store: &mut [u8], slot: u16) -> Answer
         return Answer::Refused(Refusal::Damaged);
     }
     undamaged::withdraw_receiver(store, slot)
+}
+
+// Places a noise wall into a free slot and works every account out afresh.
+pub fn place_wall(store: &mut [u8], slot: u16, w: Wall) -> Answer
+    ensures { λ r. ⌜ (r, now (store .exit)) ≡ onStore (placeWall slot w) (now (store .entry)) ⌝ }
+{
+    let steps = level::table::steps();
+    if store::damaged(&steps, store) {
+        return Answer::Refused(Refusal::Damaged);
+    }
+    undamaged::place_wall(&steps, store, slot, w)
+}
+
+// Withdraws a noise wall and works every account out afresh.
+pub fn withdraw_wall(store: &mut [u8], slot: u16) -> Answer
+    ensures { λ r. ⌜ (r, now (store .exit)) ≡ onStore (withdrawWall slot) (now (store .entry)) ⌝ }
+{
+    let steps = level::table::steps();
+    if store::damaged(&steps, store) {
+        return Answer::Refused(Refusal::Damaged);
+    }
+    undamaged::withdraw_wall(&steps, store, slot)
 }
 
 // Asks a receiver for its two indices.
