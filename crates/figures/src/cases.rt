@@ -21,6 +21,7 @@ ghost use Rattle.course.specs.Course.{wholeOf};
 ghost use Rattle.level.specs.Table.{table};
 ghost use Rattle.road.specs.declared.Shares.{Shares};
 ghost use Rattle.road.specs.declared.Pair.the-variants.{Heard};
+ghost use mathlib.Core.List.{[]};
 ghost use Rattle.road.specs.Reach.{pairOf};
 ghost use Rattle.road.specs.Figures.{home};
 
@@ -98,7 +99,7 @@ fn way(steps: &[u32; 1000], names: &[u8], x: u32)
     let q = reach::space(reach::plan(piece(x, 1000), r), r.height);
     let far = root::root(q);
     let ground = reach::ground(450, far);
-    let way = reach::way(steps, q, far, 450);
+    let way = reach::way(steps, q, far, 450, 0);
     let other = way.up + ground;
     let distance = Term {
         up: way.down,
@@ -117,6 +118,7 @@ fn barred(bar: Bar) -> Refusal {
         Bar::Far => Refusal::TooFar(0),
         Bar::Long => Refusal::TooLong(0),
         Bar::Loud => Refusal::TooLoud(0),
+        Bar::Walls => Refusal::TwoWalls(0),
     }
 }
 
@@ -130,16 +132,17 @@ fn told(p: Pair) -> Outcome
     }
 }
 
-// A road at the point: its fields are judged, and then the pair.
+// A road at the point, with no wall anywhere: its fields are judged, and then the pair.
 fn meet(steps: &[u32; 1000], s: Source) -> Outcome
     requires { ⌜ now steps ≡ table ⌝ }
-    ensures { λ o. ⌜ ((h : Shares) → o ≡ Outcome.Told h → pairOf s home ≡ Heard h) ⌝ }
+    ensures { λ o. ⌜ ((h : Shares) → o ≡ Outcome.Told h → pairOf [] s home ≡ Heard h) ⌝ }
 {
     match judge::judge_source(steps, s) {
         Verdict::Refused(why) => Outcome::Refused(why),
         Verdict::Allowed => {
             let sent = emission::send(steps, s);
-            told(reach::pair(steps, s, sent, point()))
+            let walls = [0u64; 1];
+            told(reach::pair(steps, &walls[..0], s, sent, point()))
         }
     }
 }

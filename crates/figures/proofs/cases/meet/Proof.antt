@@ -5,6 +5,9 @@ use Prim.Native.Nat.{ℕ}
 use native.Mathlib.Omega.{arith}
 use Rattle.road.specs.declared.Verdict.the-variants.{Allowed}
 use Rattle.road.specs.Judge.{receiverVerdict}
+use mathlib.Core.List.{List, []}
+use Rattle.screen.specs.declared.Wall.{Wall}
+use Rattle.screen.specs.Screen.{wallsIn, wallsOf, Laid}
 use Rattle.road.specs.Reach.{pairOf}
 use Rattle.road.specs.Figures.{home}
 use borrow.Author.Needs.{needs}
@@ -29,6 +32,20 @@ send-requires c κs = (c .before .before .before .pre, sym (c .before .before .j
 
 point-requires : tie.Need-point-requires
 point-requires c κs = search needs
+
+array-share-prefix-walls : tie.Need-array-share-prefix-walls
+array-share-prefix-walls c = search needs
+
+slice-aggregate-pair : tie.Need-slice-aggregate-pair
+slice-aggregate-pair c = search needs
+
+no-walls : Laid []
+unfolding Laid wallsOf wallsIn
+no-walls = tt
+
+none-are : wallsOf [] ≡ []
+unfolding wallsOf wallsIn
+none-are = refl
 
 pair-requires : tie.Need-pair-requires
 pair-requires c κs =

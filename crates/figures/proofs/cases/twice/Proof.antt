@@ -2,6 +2,7 @@
 -- Assumes nothing.
 use native.Mathlib.Omega.{arith}
 use Rattle.road.specs.Figures.{home}
+use mathlib.Core.List.{[]}
 use Rattle.road.specs.Reach.{pairOf}
 use Rattle.road.proofs.Pairs.{pair-bounded, heard-most}
 use borrow.Author.Needs.{needs}
@@ -26,7 +27,7 @@ enum-known-h c = search needs
 add-both : tie.Need-add-both
 add-both c =
     let m = c .before .before .before .before in
-    omega (arith, heard-most pairOf pair-bounded (m .before .street .result) home _ (m .meet .ensures _ (c .before .before .h .given .1)) 2)
+    omega (arith, heard-most (pairOf []) (pair-bounded []) (m .before .street .result) home _ (m .meet .ensures _ (c .before .before .h .given .1)) 2)
 
 level-requires : tie.Need-level-requires
 level-requires c κs = search needs

@@ -7,7 +7,7 @@ use Rattle.course.specs.declared.Piece.{Piece}
 use Rattle.course.specs.Course.{apart, square}
 use Rattle.road.specs.declared.Receiver.{Receiver}
 use Rattle.road.specs.declared.Term.{Term}
-use Rattle.road.specs.Reach.{planSquare, distanceTerm, groundTerm, farthest}
+use Rattle.road.specs.Reach.{planSquare, distanceTerm, obstacleTerm, farthest}
 use Rattle.road.proofs.Bounds.{times}
 use Rattle.road.proofs.Pairs.{Reached, reached, ground-most}
 use borrow.Author.Needs.{needs}
@@ -73,10 +73,10 @@ way-requires : tie.Need-way-requires
 way-requires c κs =
     let q = c .before .before in
     let r = far (c .before) in
-    (q .before .before .before .before .before .pre .0, spaced q .some, spaced q .most, omega arith, r .some, r .most)
+    (q .before .before .before .before .before .pre .0, spaced q .some, spaced q .most, omega arith, r .some, r .most, omega arith)
 
 add-other : tie.Need-add-other
-unfolding distanceTerm groundTerm
+unfolding distanceTerm obstacleTerm
 add-other c =
     let r = c .before .before .before .root .result in
     omega (arith, ap (λ (t : Term). t .up) (c .before .way .ensures), c .before .before .ground .ensures, ground-most 450 r)
