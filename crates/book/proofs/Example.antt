@@ -32,7 +32,7 @@ use Rattle.undamaged.proofs.Answered.{by-taken}
 use Rattle.book.proofs.Slots.{in-slots-at}
 use Rattle.book.proofs.Gates.{slot-passes}
 use Rattle.book.proofs.Laws.{StoreLaws, store-laws}
-use Rattle.book.proofs.History.{fenceAfter, sourceAfter, seatAfter, on-store, accepts-by-rule, holds-what-stands}
+use Rattle.book.proofs.History.{wallAfter, sourceAfter, seatAfter, on-store, accepts-by-rule, holds-what-stands}
 use Rattle.book.proofs.Rebuild.{keeps, rebuilt}
 
 -- ---- the two roads, and what the first brings to the point
@@ -79,10 +79,10 @@ drops c h k q e = rw (e, q)
 
 module _ (laws : StoreLaws) where
   -- a call that meets the rule is kept
-  by-rule : (h k : List Call) → Real h → kept h ≡ k → (c : Call) → Rule (fenceAfter k) (sourceAfter k) (seatAfter k) c → kept (c ∷ h) ≡ c ∷ k
+  by-rule : (h k : List Call) → Real h → kept h ≡ k → (c : Call) → Rule (wallAfter k) (sourceAfter k) (seatAfter k) c → kept (c ∷ h) ≡ c ∷ k
   unfolding standingSource standingReceiver standingWall
   by-rule h k real q c n =
-      keeps c h k q (accepts-by-rule laws h real c .1 (subst (λ l. Rule (fenceAfter l) (sourceAfter l) (seatAfter l) c) (sym q) n))
+      keeps c h k q (accepts-by-rule laws h real c .1 (subst (λ l. Rule (wallAfter l) (sourceAfter l) (seatAfter l) c) (sym q) n))
 
   -- a used slot is taken
   refuses : (h k : List Call) → Real h → kept h ≡ k → (i : ℕ) (s t : Source) → i < sourceSlots → sourceVerdict s ≡ Allowed
@@ -98,11 +98,11 @@ module _ (laws : StoreLaws) where
 
   -- what an ask is told
   tells : (h k : List Call) → Real h → kept h ≡ k → seatAfter k 5 ≡ some home
-      → answerTo h (Ask 5) ≡ levelsOf (present (inSlots wallSlots (fenceAfter k))) (present (inSlots sourceSlots (sourceAfter k))) home
+      → answerTo h (Ask 5) ≡ levelsOf (present (inSlots wallSlots (wallAfter k))) (present (inSlots sourceSlots (sourceAfter k))) home
   unfolding standingReceiver standingSources standingSource standingWalls standingWall receiverSlots
   tells h k real q e =
       holds-what-stands laws h real .levels 5 home (omega arith) (ap (λ l. seatAfter l 5) q ∙ e)
-      ∙ ap (λ l. levelsOf (present (inSlots wallSlots (fenceAfter l))) (present (inSlots sourceSlots (sourceAfter l))) home) q
+      ∙ ap (λ l. levelsOf (present (inSlots wallSlots (wallAfter l))) (present (inSlots sourceSlots (sourceAfter l))) home) q
 
   placed-kept : kept placed ≡ placed
   unfolding kept lastAt inSlots sourceSlots receiverSlots wallSlots
@@ -146,7 +146,7 @@ module _ (laws : StoreLaws) where
   elsewhere-rebuilds =
       let s : standingSources placed ≡ near ∷ [] = ap (λ l. present (inSlots sourceSlots (sourceAfter l))) placed-kept in
       let r : standingReceivers placed ≡ home ∷ [] = ap (λ l. present (inSlots receiverSlots (seatAfter l))) placed-kept in
-      let w : standingWalls placed ≡ [] = ap (λ l. present (inSlots wallSlots (fenceAfter l))) placed-kept in
+      let w : standingWalls placed ≡ [] = ap (λ l. present (inSlots wallSlots (wallAfter l))) placed-kept in
       record {
         same-sources = subst (List·Permᴰ (near ∷ [])) (sym s) (Permᴰ·refl (near ∷ []));
         same-receivers = subst (List·Permᴰ (home ∷ [])) (sym r) (Permᴰ·refl (home ∷ []));

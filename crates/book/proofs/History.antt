@@ -91,8 +91,8 @@ sourceAfter k = lastAt (map sourceMove k)
 abbrev pub seatAfter : List Call → ℕ → Option Receiver
 seatAfter k = lastAt (map receiverMove k)
 
-abbrev pub fenceAfter : List Call → ℕ → Option Wall
-fenceAfter k = lastAt (map wallMove k)
+abbrev pub wallAfter : List Call → ℕ → Option Wall
+wallAfter k = lastAt (map wallMove k)
 
 abbrev pub sourcesAfter : List Call → List (Option Source)
 sourcesAfter k = inSlots sourceSlots (sourceAfter k)
@@ -101,7 +101,7 @@ abbrev pub receiversAfter : List Call → List (Option Receiver)
 receiversAfter k = inSlots receiverSlots (seatAfter k)
 
 abbrev pub wallsAfter : List Call → List (Option Wall)
-wallsAfter k = inSlots wallSlots (fenceAfter k)
+wallsAfter k = inSlots wallSlots (wallAfter k)
 
 pub record Holds (b : List ℕ) (k : List Call) : Type 0 where
   pub sound : damaged b ≡ false
@@ -112,14 +112,14 @@ pub record Holds (b : List ℕ) (k : List Call) : Type 0 where
 record Fits (k : List Call) (c : Call) (o : Answer × List ℕ) : Type 0 where
   holds : RealCall c → Holds (o .1) (cond (accepted (o .0)) (c ∷ k) k)
   sound : o .0 ≢ Refused Damaged
-  rule : (accepted (o .0) ≡ true) ↔ Rule (fenceAfter k) (sourceAfter k) (seatAfter k) c
+  rule : (accepted (o .0) ≡ true) ↔ Rule (wallAfter k) (sourceAfter k) (seatAfter k) c
 
 -- the slots of all three parties, as they are called elsewhere
 all-standing : {W X : List (Option Wall)} {S T : List (Option Source)} {Q R : List (Option Receiver)}
     → W ≡ X → S ≡ T → Q ≡ R → Standing W S Q → Standing X T R
 all-standing {X = X} {S = S} {Q = Q} w s r p = subst₂ (Standing X) s r (subst (λ l. Standing l S Q) w p)
 
-holds-next : (b : List ℕ) (k : List Call) (c : Call) → Next (fenceAfter k) (sourceAfter k) (seatAfter k) c (bookOf b) → damaged b ≡ false
+holds-next : (b : List ℕ) (k : List Call) (c : Call) → Next (wallAfter k) (sourceAfter k) (seatAfter k) c (bookOf b) → damaged b ≡ false
     → RealCall c → Holds b (c ∷ k)
 holds-next b k c n e real =
     let w = slots-moved wallSlots (wallMove c) (map wallMove k) in
@@ -178,7 +178,7 @@ module _ (laws : StoreLaws) where
     standing = all-standing w s r nobody;
   }
 
-  fits-told : (b : List ℕ) (k : List Call) (c : Call) → Holds b k → (x : Step) → Leads (fenceAfter k) (sourceAfter k) (seatAfter k) c x → Fits k c (told b x)
+  fits-told : (b : List ℕ) (k : List Call) (c : Call) → Holds b k → (x : Step) → Leads (wallAfter k) (sourceAfter k) (seatAfter k) c x → Fits k c (told b x)
   fits-told b k c H (refuse r) p = record {
     holds = λ real. H;
     sound = λ e. p .0 (let q : r ≡ Damaged = cc in q);
@@ -200,7 +200,7 @@ module _ (laws : StoreLaws) where
   }
 
   fits-step : (b : List ℕ) (k : List Call) (c : Call) → Holds b k → (f : Book → Step)
-      → Leads (fenceAfter k) (sourceAfter k) (seatAfter k) c (f (fill (wallsAfter k) (sourcesAfter k) (receiversAfter k))) → Fits k c (onStore f b)
+      → Leads (wallAfter k) (sourceAfter k) (seatAfter k) c (f (fill (wallsAfter k) (sourcesAfter k) (receiversAfter k))) → Fits k c (onStore f b)
   fits-step b k c H f p =
       subst (Fits k c) (sym (on-store f b _ (H .sound) (H .filled))) (fits-told b k c H (f (fill (wallsAfter k) (sourcesAfter k) (receiversAfter k))) p)
 
@@ -256,7 +256,7 @@ module _ (laws : StoreLaws) where
         levels = λ j r q e.
             ap (λ (o : Answer × List ℕ). o .0)
             (on-store (askReceiver j) (storeAfter h) (fill W S R) (H .sound) (H .filled)
-            ∙ ap (told (storeAfter h)) (ask-tells (fenceAfter (kept h)) (sourceAfter (kept h)) (seatAfter (kept h)) j r q e));
+            ∙ ap (told (storeAfter h)) (ask-tells (wallAfter (kept h)) (sourceAfter (kept h)) (seatAfter (kept h)) j r q e));
       }
     where
       who : (l : List (Option Receiver)) → map (omap (λ x. x .who)) (map (omap (weigh (pairOf (standingWalls h)) (standingSources h))) l) ≡ l

@@ -21,7 +21,7 @@ use Rattle.undamaged.proofs.Sums.{HearsAll, all-map, never}
 use Rattle.book.specs.History.{Call, answerTo, Real, accepted, kept, sourceMove, receiverMove, wallMove, lastAt, inSlots, standingSource}
 use Rattle.book.specs.History.{standingReceiver, standingWall, standingSources, standingReceivers, standingWalls, levelsOf, SumsOf, Hears, AllHear}
 use Rattle.book.specs.History.{Put, Placing, source, receiver, wall, asCall, calls, sourcesIn, receiversIn, wallsIn, WallsFirst, entriesOf, Apart}
-use Rattle.book.specs.History.{Rebuilds, AllAccepted, Rebuilt, inPlace, anew}
+use Rattle.book.specs.History.{Rule, Rebuilds, AllAccepted, Rebuilt, inPlace, anew}
 use Rattle.book.proofs.Slots.{all-perm, in-slots-length, entering, entering-free, entering-perm, entering-at, in-place-entries}
 use Rattle.book.proofs.Slots.{in-place-apart}
 use Rattle.book.proofs.Accounts.{weigh-perm}
@@ -143,6 +143,13 @@ module _ (ks : List Placing) (all : kept (calls ks) ≡ calls ks) where
   unfolding standingWalls
   placed-walls apart = rw (fun-ext placed-wall) (entering-perm wallSlots (wallsIn ks) apart)
 
+  -- and what they make of a pair is what the walls of the placings do
+  placed-pairs : Apart wallSlots (wallsIn ks) → pairOf (entriesOf (wallsIn ks)) ≡ pairOf (standingWalls (calls ks))
+  placed-pairs apart = of-pairs .any-order (Permᴰ·symm (placed-walls apart))
+
+abbrev Accepted : List Placing → Type 0
+Accepted ks = AllAccepted (calls ks) × (kept (calls ks) ≡ calls ks)
+
 pub keeps : (c : Call) (h k : List Call) → kept h ≡ k → accepted (answerTo h c) ≡ true → kept (c ∷ h) ≡ c ∷ k
 unfolding kept
 keeps c h k q e = rw (e, q)
@@ -159,44 +166,49 @@ levels-perm ω π r =
     ap (λ (x : Held). Levels (ldenOf (x .sums .day) (x .sums .evening) (x .sums .night)) (lnightOf (x .sums .night))) (accounts-perm ω π r)
 
 module _ (laws : StoreLaws) where
-  all-accepted : (ks : List Placing) → Together ks → AllAccepted (calls ks) × (kept (calls ks) ≡ calls ks)
+  -- one more placing that meets the rule
+  one-more : (k : Placing) (ks : List Placing) → Together ks → Accepted ks
+      → Rule (standingWall (calls ks)) (standingSource (calls ks)) (standingReceiver (calls ks)) (asCall k) → Accepted (k ∷ ks)
+  one-more k ks g ih n =
+      let e = accepts-by-rule laws (calls ks) (together-real ks g) (asCall k) .1 n in
+      ((e, ih .0), keeps (asCall k) (calls ks) (calls ks) (ih .1) e)
+
+  all-accepted : (ks : List Placing) → Together ks → Accepted ks
   unfolding kept standingSources standingReceivers standingWalls
   all-accepted [] g = (tt, refl)
   all-accepted (source x ∷ ks) g =
       let g′ = first-source x ks g in
       let ih = all-accepted ks g′ in
-      let same = of-pairs .any-order (Permᴰ·symm (placed-walls ks (ih .1) (g′ .wall-slots))) in
-      let hears = all-map (HearsAll (pairOf (entriesOf (wallsIn ks))) (entriesOf (x ∷ sourcesIn ks))) (Hears (entriesOf (wallsIn ks)) (x .entry)) (λ r p. p .0) (entriesOf (receiversIn ks)) (g .heard) in
-      let e = accepts-by-rule laws (calls ks) (together-real ks g′) (asCall (source x)) .1 (
+      let ws = entriesOf (wallsIn ks) in
+      let hears = all-map (HearsAll (pairOf ws) (entriesOf (x ∷ sourcesIn ks))) (Hears ws (x .entry)) (λ r p. p .0) (entriesOf (receiversIn ks)) (g .heard) in
+      one-more (source x) ks g′ ih (
         g .source-slots .0,
         g .sources .0 .0,
         placed-source ks (ih .1) (x .slot) ∙ entering-free (x .slot) (sourcesIn ks) (g .source-slots .1),
-        subst (λ (pair : Pairing). All (λ r. isHeard (pair (x .entry) r) ≡ true) (standingReceivers (calls ks))) same
-        (all-perm (Hears (entriesOf (wallsIn ks)) (x .entry)) (Permᴰ·symm (placed-receivers ks (ih .1) (g′ .receiver-slots))) hears),
-      ) in
-      ((e, ih .0), keeps (asCall (source x)) (calls ks) (calls ks) (ih .1) e)
+        subst (λ (pair : Pairing). All (λ r. isHeard (pair (x .entry) r) ≡ true) (standingReceivers (calls ks))) (placed-pairs ks (ih .1) (g′ .wall-slots))
+            (all-perm (Hears ws (x .entry)) (Permᴰ·symm (placed-receivers ks (ih .1) (g′ .receiver-slots))) hears),
+      )
   all-accepted (receiver x ∷ ks) g =
       let g′ = first-receiver x ks g in
       let ih = all-accepted ks g′ in
-      let same = of-pairs .any-order (Permᴰ·symm (placed-walls ks (ih .1) (g′ .wall-slots))) in
-      let e = accepts-by-rule laws (calls ks) (together-real ks g′) (asCall (receiver x)) .1 (
+      let ws = entriesOf (wallsIn ks) in
+      one-more (receiver x) ks g′ ih (
         g .receiver-slots .0,
         g .receivers .0,
         placed-receiver ks (ih .1) (x .slot) ∙ entering-free (x .slot) (receiversIn ks) (g .receiver-slots .1),
-        subst (λ (pair : Pairing). All (λ s. isHeard (pair s (x .entry)) ≡ true) (standingSources (calls ks))) same
-        (all-perm (λ s. Hears (entriesOf (wallsIn ks)) s (x .entry)) (Permᴰ·symm (placed-sources ks (ih .1) (g′ .source-slots))) (g .heard .0)),
-      ) in
-      ((e, ih .0), keeps (asCall (receiver x)) (calls ks) (calls ks) (ih .1) e)
+        subst (λ (pair : Pairing). All (λ s. isHeard (pair s (x .entry)) ≡ true) (standingSources (calls ks))) (placed-pairs ks (ih .1) (g′ .wall-slots))
+            (all-perm (λ s. Hears ws s (x .entry)) (Permᴰ·symm (placed-sources ks (ih .1) (g′ .source-slots))) (g .heard .0)),
+      )
+  -- before it there are only walls, so that no pair is to be heard
   all-accepted (wall x ∷ ks) g =
       let g′ = first-wall x ks g in
       let ih = all-accepted ks g′ in
-      let e = accepts-by-rule laws (calls ks) (together-real ks g′) (asCall (wall x)) .1 (
+      one-more (wall x) ks g′ ih (
         g .wall-slots .0,
         g .walls .0,
         placed-wall ks (ih .1) (x .slot) ∙ entering-free (x .slot) (wallsIn ks) (g .wall-slots .1),
         all-perm _ (Permᴰ·symm (placed-receivers ks (ih .1) (g′ .receiver-slots))) (no-pair _ (receiversIn ks) (g .walls-first .1)),
-      ) in
-      ((e, ih .0), keeps (asCall (wall x)) (calls ks) (calls ks) (ih .1) e)
+      )
 
   -- what stands goes together
   together : (h : List Call) → Real h → (ks : List Placing) → Rebuilds h ks → Together ks
