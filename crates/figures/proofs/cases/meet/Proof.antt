@@ -1,8 +1,9 @@
 -- `meet` hears a road that is allowed as its pair with the point is heard.
 -- Assumes nothing.
-use mathlib.Core.Path.{_≡_, refl, sym, ap, _∙_}
+use mathlib.Core.Path.{_≡_, refl, sym, ap, ap₂, _∙_}
 use Prim.Native.Nat.{ℕ}
 use native.Mathlib.Omega.{arith}
+use Rattle.road.specs.declared.Receiver.{Receiver}
 use Rattle.road.specs.declared.Verdict.the-variants.{Allowed}
 use Rattle.road.specs.Judge.{receiverVerdict}
 use mathlib.Core.List.{List, []}
@@ -49,8 +50,8 @@ none-are = refl
 
 pair-requires : tie.Need-pair-requires
 pair-requires c κs =
-    let judged = c .before .before .before .before in
-    (judged .before .pre, sym (judged .judge-source .ensures) ∙ c .before .before .enum-told .given .1, c .before .send .ensures, ap receiverVerdict (c .point .ensures) ∙ home-allowed)
+    let judged = c .before .before .before .before .before in
+    (judged .before .pre, sym (judged .judge-source .ensures) ∙ c .before .before .before .enum-told .given .1, c .before .before .send .ensures, ap receiverVerdict (c .point .ensures) ∙ home-allowed, no-walls)
 
 told-requires : tie.Need-told-requires
 told-requires c κs = search needs
@@ -60,8 +61,8 @@ returns c = λ h e. absurd (let z : _≡_ {A = ℕ} 0 1 = cc in omega arith)
 
 returns-2 : tie.Need-returns-2
 returns-2 c =
-    let s = c .before .before .before .before .before .before .before .args .s in
-    λ h e. sym (c .before .pair .ensures ∙ ap (pairOf s) (c .before .before .point .ensures)) ∙ c .told .ensures h e
+    let s = c .before .before .before .before .before .before .before .before .args .s in
+    λ h e. sym (c .before .pair .ensures ∙ ap₂ (λ (ws : List Wall) (r : Receiver). pairOf ws s r) none-are (c .before .before .point .ensures)) ∙ c .told .ensures h e
 
 pub meet-spec : {M : Type 1} → statement M
 meet-spec =
@@ -71,6 +72,8 @@ meet-spec =
     enum-known-why
     enum-told
     send-requires
+    array-share-prefix-walls
+    slice-aggregate-pair
     point-requires
     pair-requires
     told-requires
