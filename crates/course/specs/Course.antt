@@ -8,6 +8,7 @@ use lib.Dec.{ltb}
 use Rattle.root.specs.Root.{rootOf}
 use Rattle.course.specs.declared.Piece.{Piece}
 use Rattle.course.specs.declared.Ends.{Ends}
+use Rattle.course.specs.declared.Lengths.{Lengths}
 use Rattle.course.specs.declared.Course.{Course}
 use Rattle.course.specs.declared.Course.the-variants.{Uncut, Between}
 
@@ -31,6 +32,9 @@ mean a b = (a + b) / 2
 
 unfoldable pub lengthOf : Ends → ℕ
 lengthOf e = rootOf (planBetween (e .x1) (e .y1) (e .x2) (e .y2))
+
+abbrev pub lengthsOf : Ends → Ends → Lengths
+lengthsOf a b = record { first = lengthOf a; second = lengthOf b }
 
 -- all of it as one piece
 unfoldable pub onePiece : Ends → Piece

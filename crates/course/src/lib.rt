@@ -2,7 +2,7 @@
 // What the cutting is made of is here; the recursion over the halves adds up shares, and is in the crate reach.
 ghost use mathlib.Core.Path.{_≡_};
 ghost use Prim.Native.Nat.{_^_, _<_, _≤_};
-ghost use Rattle.course.specs.Course.{apart, mean, planBetween, lengthOf, onePiece, wholeOf, firstHalf, secondHalf, tooLong, Mapped, Drawn};
+ghost use Rattle.course.specs.Course.{apart, mean, planBetween, lengthOf, lengthsOf, onePiece, wholeOf, firstHalf, secondHalf, tooLong, Mapped, Drawn};
 
 // What is no longer is not cut, in cm.
 const CUT_ABOVE: u32 = 250;
@@ -26,6 +26,12 @@ pub struct Ends {
 pub enum Course {
     Uncut(Piece),
     Between(Ends),
+}
+
+// The lengths of two roads.
+pub struct Lengths {
+    pub first: u32,
+    pub second: u32,
 }
 
 // How far two numbers are apart.
@@ -66,6 +72,25 @@ pub fn length(e: Ends) -> u32
     let square = plan_between(e.x1, e.y1, e.x2, e.y2);
     let root = root::root(square);
     root as u32
+}
+
+// The lengths of two roads, whose roots are worked out side by side.
+pub fn lengths_of(a: Ends, b: Ends) -> Lengths
+    requires { ⌜ Mapped a × Mapped b ⌝ }
+    ensures { λ l. ⌜ l ≡ lengthsOf a b ⌝ }
+{
+    let p = plan_between(a.x1, a.y1, a.x2, a.y2);
+    let q = plan_between(b.x1, b.y1, b.x2, b.y2);
+    if p <= q {
+        let lines = root::last_lines(p, q);
+        let first = lines.near.root as u32;
+        let second = lines.far.root as u32;
+        return Lengths { first, second };
+    }
+    let lines = root::last_lines(q, p);
+    let first = lines.far.root as u32;
+    let second = lines.near.root as u32;
+    Lengths { first, second }
 }
 
 // All of it as one piece, by its length.

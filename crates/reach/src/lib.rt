@@ -286,11 +286,12 @@ fn along(
     if course::too_long(whole.length, q) {
         let first = course::first_half(e);
         let second = course::second_half(e);
+        let lengths = course::lengths_of(first, second);
         let a = along(
             steps,
             walls,
             voices,
-            course::whole(first, course::length(first)),
+            course::whole(first, lengths.first),
             first,
             r,
         );
@@ -298,7 +299,7 @@ fn along(
             steps,
             walls,
             voices,
-            course::whole(second, course::length(second)),
+            course::whole(second, lengths.second),
             second,
             r,
         );

@@ -6,7 +6,8 @@ ghost use mathlib.Core.Path.{_≡_};
 ghost use Prim.Native.Nat.{_+_, _≤_, _<_};
 ghost use Rattle.level.specs.Table.{table};
 ghost use Rattle.root.specs.Root.{rootOf};
-ghost use Rattle.screen.specs.Section.{Reaches, Upright, sectionOf, hD, gamma, lift, slope, z, Dz, screening};
+ghost use Rattle.course.specs.Course.{square};
+ghost use Rattle.screen.specs.Section.{Reaches, Upright, sectionOf, hD, gamma, lift, z, Dz, screening};
 
 // How high above the road the source is, in mm.
 const SOURCE: u64 = 500;
@@ -27,20 +28,14 @@ pub struct Detour {
     pub through: u64,
 }
 
-// The root, down.
-fn root_of(q: u64) -> u64
-    ensures { λ r. ⌜ r ≡ rootOf q ⌝ }
-{
-    root::root(q)
-}
-
 // The section by the squared distances, the fraction at the wall, and the heights in cm.
 pub fn cut(q0: u64, q: u64, f: Ratio, height: u16, wall: u16) -> Section
     requires { ⌜ Reaches height q0 q × (f .num < f .den) × (f .num ≤ 6710886400000) × (wall ≤ 2000) ⌝ }
     ensures { λ c. ⌜ c ≡ sectionOf q0 q f height wall ⌝ }
 {
-    let s0 = root_of(100 * q0);
-    let s = root_of(100 * q);
+    let lines = root::last_lines(100 * q0, 100 * q);
+    let s0 = lines.near.root;
+    let s = lines.far.root;
     let a = f.num * s0 / f.den;
     let b = s0 - a;
     let h = 10 * height as u64;
@@ -86,14 +81,27 @@ fn lift(c: Section) -> u64
     flat * c.s / c.s0
 }
 
-// The length of a slope.
-fn slope(along: u64, up: u64) -> u64
+// The square of the length of a slope.
+fn square_of(along: u64, up: u64) -> u64
     requires { ⌜ (along ≤ 2000000) × (up ≤ 3000000) ⌝ }
-    ensures { λ r. ⌜ r ≡ slope along up ⌝ }
+    ensures { λ q. ⌜ (q ≡ square along + square up) × (q ≤ square 4000000) ⌝ }
 {
     let flat = along * along;
     let steep = up * up;
-    root_of(flat + steep)
+    flat + steep
+}
+
+// The sum of the roots of two numbers, which are worked out side by side.
+fn both(x: u64, y: u64) -> u64
+    requires { ⌜ (x ≤ square 4000000) × (y ≤ square 4000000) ⌝ }
+    ensures { λ r. ⌜ r ≡ rootOf x + rootOf y ⌝ }
+{
+    if x <= y {
+        let lines = root::last_lines(x, y);
+        return lines.near.root + lines.far.root;
+    }
+    let lines = root::last_lines(y, x);
+    lines.far.root + lines.near.root
 }
 
 // Equation 16: the two ways.
@@ -101,13 +109,15 @@ fn ways(c: Section, through: u64) -> Detour
     requires { ⌜ Upright c × (through ≡ hD c + lift c) ⌝ }
     ensures { λ d. ⌜ d ≡ z c ⌝ }
 {
-    let a = slope(c.a, plan::apart(c.edge, SOURCE));
-    let b = slope(c.b, plan::apart(c.edge, c.h));
-    let a_lifted = slope(c.a, plan::apart(through, SOURCE));
-    let b_lifted = slope(c.b, plan::apart(through, c.h));
+    let a = square_of(c.a, plan::apart(c.edge, SOURCE));
+    let b = square_of(c.b, plan::apart(c.edge, c.h));
+    let a_lifted = square_of(c.a, plan::apart(through, SOURCE));
+    let b_lifted = square_of(c.b, plan::apart(through, c.h));
+    let over = both(a, b);
+    let lifted = both(a_lifted, b_lifted);
     Detour {
-        over: a + b,
-        through: a_lifted + b_lifted,
+        over,
+        through: lifted,
     }
 }
 

@@ -9,6 +9,7 @@ use borrow.Fn.Kinds.{In}
 use borrow.Fn.PlainCycle.{Measures, is, falls, and}
 use Rattle.course.specs.declared.Piece.{Piece}
 use Rattle.course.specs.declared.Ends.{Ends}
+use Rattle.course.specs.declared.Lengths.{Lengths}
 use Rattle.course.specs.Course.{lengthOf, onePiece, firstHalf, secondHalf, tooLong, long, piecesBetween, Mapped}
 use Rattle.screen.specs.Screen.{wallsOf}
 use Rattle.road.specs.Limits.{longest}
@@ -22,7 +23,7 @@ use Rattle.reach.proofs.along.Reads as along
 use Rattle.reach.proofs.along.Kinds as along-kinds
 use Rattle.reach.proofs.+along.Lts-along as along-lts
 use Rattle.course.proofs.first_half.Reads as first-half-reads
-use Rattle.course.proofs.length.Reads as length-reads
+use Rattle.course.proofs.lengths_of.Reads as lengths-of-reads
 use Rattle.course.proofs.second_half.Reads as second-half-reads
 use Rattle.course.proofs.too_long.Reads as too-long-reads
 use Rattle.course.proofs.whole.Reads as whole-reads
@@ -57,8 +58,8 @@ calls t = (
   first-half-reads.Learnt,
   second-half-reads.Asked,
   second-half-reads.Learnt,
-  length-reads.Asked,
-  length-reads.Learnt,
+  lengths-of-reads.Asked,
+  lengths-of-reads.Learnt,
   whole-reads.Asked,
   whole-reads.Learnt,
   along-below t,
@@ -128,11 +129,14 @@ along-first-half-requires t c κs = begun t c .pre .1 .1 .0
 along-second-half-requires : (t : ℕ) → along-lts.Need-second-half-requires (calls t) (along-at t) along.Post
 along-second-half-requires t c κs = begun t (c .before) .pre .1 .1 .0
 
-along-length-requires : (t : ℕ) → along-lts.Need-length-requires (calls t) (along-at t) along.Post
-along-length-requires t c κs = subst⁻¹ Mapped (c .before .first-half .ensures) (first t (c .before .before) .mapped)
+along-lengths-of-requires : (t : ℕ) → along-lts.Need-lengths-of-requires (calls t) (along-at t) along.Post
+along-lengths-of-requires t c κs =
+    let k = c .before .before in
+    (subst⁻¹ Mapped (c .before .first-half .ensures) (first t k .mapped), subst⁻¹ Mapped (c .second-half .ensures) (second t k .mapped))
 
 along-whole-requires : (t : ℕ) → along-lts.Need-whole-requires (calls t) (along-at t) along.Post
-along-whole-requires t c κs = (subst⁻¹ Mapped (c .before .before .first-half .ensures) (first t (c .before .before .before) .mapped), c .length .ensures)
+along-whole-requires t c κs =
+    (subst⁻¹ Mapped (c .before .before .first-half .ensures) (first t (c .before .before .before) .mapped), ap (λ (l : Lengths). l .first) (c .lengths-of .ensures))
 
 -- what a half asks: it is shorter, and it has a length
 below : (t : ℕ) (s : along-lts.Start (calls t) (along-at t) along.Post) (h g : Ends) → h ≡ g → Halved (s .args .e) g
@@ -149,55 +153,53 @@ along-along-requires t c κs =
     let b = below t s _ _ (c .before .before .before .first-half .ensures) (first t k) in
     (b .0, (s .pre .1 .0, (b .1 .0, c .whole .ensures, b .1 .1, b .1 .2)))
 
-along-length-requires-2 : (t : ℕ) → along-lts.Need-length-requires-2 (calls t) (along-at t) along.Post
-along-length-requires-2 t c κs =
-    subst⁻¹ Mapped (c .before .before .before .second-half .ensures) (second t (c .before .before .before .before .before) .mapped)
-
 along-whole-requires-2 : (t : ℕ) → along-lts.Need-whole-requires-2 (calls t) (along-at t) along.Post
 along-whole-requires-2 t c κs =
-    (subst⁻¹ Mapped (c .before .before .before .before .second-half .ensures) (second t (c .before .before .before .before .before .before) .mapped), c .length2 .ensures)
+    let h = c .before .before .before in
+    (subst⁻¹ Mapped (h .second-half .ensures) (second t (h .before .before) .mapped), ap (λ (l : Lengths). l .second) (c .before .before .lengths-of .ensures))
 
 along-along-requires-2 : (t : ℕ) → along-lts.Need-along-requires-2 (calls t) (along-at t) along.Post
 along-along-requires-2 t c κs =
-    let k = c .before .before .before .before .before .before .before in
+    let h = c .before .before .before .before in
+    let k = h .before .before in
     let s = begun t k in
-    let b = below t s _ _ (c .before .before .before .before .before .second-half .ensures) (second t k) in
+    let b = below t s _ _ (h .second-half .ensures) (second t k) in
     (b .0, (s .pre .1 .0, (b .1 .0, c .whole2 .ensures, b .1 .1, b .1 .2)))
 
 along-join-requires : (t : ℕ) → along-lts.Need-join-requires (calls t) (along-at t) along.Post
 along-join-requires t c κs =
-    let h = c .before .before .before .before .before .before in
+    let h = c .before .before .before .before .before in
     let a = begun t (h .before .before) .args in
     let f = shareBy (wallsOf (a .walls .now)) (a .voices) (a .r) in
     let two = twoWalls (wallsOf (a .walls .now)) (a .r) in
     let u = piecesBetween (far (a .r)) (h .before .first-half .result) in
     let v = piecesBetween (far (a .r)) (h .second-half .result) in
-    let x : Mild (c .before .before .before .along .result) = subst⁻¹ Mild (c .before .before .before .along .ensures) (over-bounded f two (a .r) u) in
+    let x : Mild (c .before .before .along .result) = subst⁻¹ Mild (c .before .before .along .ensures) (over-bounded f two (a .r) u) in
     let y : Mild (c .along2 .result) = subst⁻¹ Mild (c .along2 .ensures) (over-bounded f two (a .r) v) in
     (search (x, y), search (x, y))
 
 along-returns : (t : ℕ) → along-lts.Need-returns (calls t) (along-at t) along.Post
 along-returns t c =
-    let h = c .before .before .before .before .before .before .before in
+    let h = c .before .before .before .before .before .before in
     let k = h .before .before in
     let a = begun t k .args in
     let f = shareBy (wallsOf (a .walls .now)) (a .voices) (a .r) in
     let two = twoWalls (wallsOf (a .walls .now)) (a .r) in
-    let u = c .before .before .before .before .along .ensures ∙ ap (λ (x : Ends). pairOver f two (a .r) (piecesBetween (far (a .r)) x)) (h .before .first-half .ensures) in
+    let u = c .before .before .before .along .ensures ∙ ap (λ (x : Ends). pairOver f two (a .r) (piecesBetween (far (a .r)) x)) (h .before .first-half .ensures) in
     let v = c .before .along2 .ensures ∙ ap (λ (x : Ends). pairOver f two (a .r) (piecesBetween (far (a .r)) x)) (h .second-half .ensures) in
     c .join .ensures ∙ ap₂ joined u v ∙ sym (over-cut (a .r) (a .e) f two (is-long t k))
 
 -- ---- a road that is not
 
-along-length-requires-3 : (t : ℕ) → along-lts.Need-length-requires-3 (calls t) (along-at t) along.Post
-along-length-requires-3 t c κs = let s = c .before .before .before .before .before in let f = piece t s in (s .pre .1 .0 .0, f .some, f .short)
+along-length-requires : (t : ℕ) → along-lts.Need-length-requires (calls t) (along-at t) along.Post
+along-length-requires t c κs = let s = c .before .before .before .before .before in let f = piece t s in (s .pre .1 .0 .0, f .some, f .short)
 
 along-alone-requires : (t : ℕ) → along-lts.Need-alone-requires (calls t) (along-at t) along.Post
 along-alone-requires t c κs =
     let s = c .before .before .before .before .before .before in
     let p = s .pre .1 .0 in
     let f = piece t s in
-    ((p .0, p .1, p .2, c .length3 .ensures, p .3), (f .x, f .y, f .some, f .short))
+    ((p .0, p .1, p .2, c .length .ensures, p .3), (f .x, f .y, f .some, f .short))
 
 along-returns-2 : (t : ℕ) → along-lts.Need-returns-2 (calls t) (along-at t) along.Post
 along-returns-2 t c =
@@ -213,6 +215,6 @@ pub +along-spec : {M : Type 1} → statement M
 +along-spec =
     close μ-along
     (λ t. along-lts.spec (calls t) (along-at t) along.Post (along-plan-requires t) (along-space-requires t) (along-too-long-requires t)
-    (along-first-half-requires t) (along-second-half-requires t) (along-length-requires t) (along-whole-requires t) (along-along-requires t)
-    (along-length-requires-2 t) (along-whole-requires-2 t) (along-along-requires-2 t) (along-join-requires t) (along-returns t)
-    (along-length-requires-3 t) (along-alone-requires t) (along-returns-2 t))
+    (along-first-half-requires t) (along-second-half-requires t) (along-lengths-of-requires t) (along-whole-requires t) (along-along-requires t)
+    (along-whole-requires-2 t) (along-along-requires-2 t) (along-join-requires t) (along-returns t)
+    (along-length-requires t) (along-alone-requires t) (along-returns-2 t))
