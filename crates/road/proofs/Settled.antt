@@ -149,6 +149,9 @@ plan-between-settled l a = settled _ _
 course-length-settled : SettlesResult course.length.Reads.Post
 course-length-settled l a = settled _ _
 
+lengths-of-settled : SettlesResult course.lengths_of.Reads.Post
+lengths-of-settled l a = settled _ _
+
 whole-settled : SettlesResult course.whole.Reads.Post
 whole-settled l a = settled _ _
 
