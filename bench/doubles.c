@@ -229,8 +229,7 @@ static void piece(const struct source *s, struct receiver *r, struct point middl
         if (!s->drives[period])
             continue;
         double level = s->emission[period] - lost - weather[period] * part;
-        if (level >= 0)
-            r->sum[period] += sign * pow(10, level / 10);
+        r->sum[period] += sign * pow(10, level / 10);
     }
 }
 
@@ -332,6 +331,12 @@ static void withdraw_source(struct bits *bits)
     s->used = 0;
 }
 
+/* What a period brings to the whole day: nothing while it is quiet. */
+static double brought(double sum)
+{
+    return sum < 1 ? 0 : sum;
+}
+
 static void print_level(double energy)
 {
     if (energy < 1)
@@ -344,8 +349,8 @@ static void ask(long number, struct bits *bits)
 {
     long slot = take(bits, 6);
     const double *sum = receivers[slot].sum;
-    double day_evening_night =
-        (12 * sum[0] + 4 * sum[1] * pow(10, 0.5) + 8 * sum[2] * 10) / 24;
+    double day = brought(sum[0]), evening = brought(sum[1]), night = brought(sum[2]);
+    double day_evening_night = (12 * day + 4 * evening * pow(10, 0.5) + 8 * night * 10) / 24;
     printf("%ld R%02ld", number, slot);
     print_level(day_evening_night);
     print_level(sum[2]);

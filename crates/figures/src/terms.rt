@@ -18,6 +18,19 @@ fn decades(steps: &[u32; 1000])
     print::number(names, 3, level::table::step(steps, 999));
 }
 
+// Energies of levels below zero.
+fn faint(steps: &[u32; 1000])
+    requires { ⌜ now steps ≡ table ⌝ }
+{
+    let names = b"E(-1): \nE(-999): \nE(-1000): \nE(-1001): \nE(-6000): \nE(-6001): \n";
+    print::number(names, 0, level::energy_at(steps, 0, 1));
+    print::number(names, 1, level::energy_at(steps, 0, 999));
+    print::number(names, 2, level::energy_at(steps, 0, 1000));
+    print::number(names, 3, level::energy_at(steps, 0, 1001));
+    print::number(names, 4, level::energy_at(steps, 0, 6000));
+    print::number(names, 5, level::energy_at(steps, 0, 6001));
+}
+
 // Levels of numbers, and of an energy that has none.
 fn levels(steps: &[u32; 1000])
     requires { ⌜ now steps ≡ table ⌝ }
@@ -74,6 +87,7 @@ fn additions() {
 pub fn all() {
     let steps = level::table::steps();
     decades(&steps);
+    faint(&steps);
     levels(&steps);
     speeds(&steps);
     traffic(&steps);

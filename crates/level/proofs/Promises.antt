@@ -7,6 +7,7 @@ use Rattle.level.specs.Level.{levelOf, loudnessOf}
 use Rattle.level.specs.declared.Loudness.the-variants.{Quiet, Level}
 use Rattle.level.specs.Promises.{Promises}
 use Rattle.level.proofs.Rule.{table-length, rule}
+use Rattle.level.proofs.Signs.{energy-from-zero, energy-below-zero, energy-tenth, energy-far-below, energy-never-falls, energy-within}
 use Rattle.level.proofs.Laws.{level-reached, level-greatest, level-rises, level-energy, energy-rising, heard-quiet, heard-level}
 
 some-level : (l : ℕ) → Level l ≡ Quiet → ⊥
@@ -23,6 +24,12 @@ pub of-levels : Promises
 of-levels = record {
   thousand = table-length;
   nearest = rule;
+  from-zero = energy-from-zero;
+  below-zero = energy-below-zero;
+  tenth = energy-tenth;
+  far-below = energy-far-below;
+  never-falls = energy-never-falls;
+  within = energy-within;
   at-most = λ s h. level-reached s h .has;
   greatest = level-greatest;
   quiet = heard-quiet;

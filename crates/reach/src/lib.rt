@@ -125,19 +125,13 @@ fn share(steps: &[u32; 1000], v: Voice, way: Term, c: u64, h: u64, near: u64) ->
     let sent = v.level;
     let up = sent.up + way.up;
     let down = sent.down + way.down + weather(c, h, near);
-    if up < down {
-        return Part {
-            loud: false,
-            energy: 0,
-        };
-    }
-    if LOUDEST < up - down {
+    if LOUDEST + down < up {
         return Part {
             loud: true,
             energy: 0,
         };
     }
-    let energy = level::energy(steps, up - down);
+    let energy = level::energy_at(steps, up, down);
     Part {
         loud: false,
         energy: energy,

@@ -1,6 +1,6 @@
 -- All the figures that are proved are those on paper: one test, computed over one table; and the pair of the 25 m case by them.
 -- Assumes nothing.
-use mathlib.Core.Path.{_≡_, refl, _∙_}
+use mathlib.Core.Path.{_≡_, refl, ap, _∙_}
 use mathlib.Core.Bool.{Bool, true, false, _&&_, _||_}
 use mathlib.Core.List.{List, [], _∷_}
 use Prim.Native.Nat.{ℕ, zero, suc, _-_, _≤_}
@@ -9,7 +9,8 @@ use lib.Dec.{T, eqb}
 use lib.ListN.{getD}
 use borrow.Author.Tests.{eqb-true, le-ltb}
 use Rattle.level.specs.Table.{table, firstQuarter, secondQuarter, thirdQuarter, fourthQuarter}
-use Rattle.level.specs.Level.{energyOf, levelOf, upTo, decades}
+use Rattle.level.specs.Level.{energyOf, tensBelow, energyAt, levelOf, upTo, decades}
+use Rattle.level.proofs.Signs.{energy-from-zero}
 use Rattle.level.specs.Figures.{Figure, right, levels}
 use Rattle.screen.specs.Plan.{around, fractionOf}
 use Rattle.screen.specs.Section.{sectionOf, hD, gamma, lift, z, Dz}
@@ -27,7 +28,7 @@ use Rattle.road.specs.Figures.{piece, road, home, roads, figures}
 use Rattle.road.proofs.Pairs.{pair-heard}
 
 pub figures-right : T (right figures)
-unfolding right figures levels roads screens table firstQuarter secondQuarter thirdQuarter fourthQuarter energyOf levelOf upTo decades rootOf rooted trafficTerm carLevel truckLevel speedTerm surfaceTerm gradientTerm reflectionTerm planSquare spaceSquare lengthTerm distanceTerm groundTerm screenBetween lossOf metOf between obstacleTerm wallsTerm weatherTerm shareLevel around fractionOf sectionOf hD gamma lift z Dz
+unfolding right figures levels roads screens table firstQuarter secondQuarter thirdQuarter fourthQuarter energyOf tensBelow energyAt levelOf upTo decades rootOf rooted trafficTerm carLevel truckLevel speedTerm surfaceTerm gradientTerm reflectionTerm planSquare spaceSquare lengthTerm distanceTerm groundTerm screenBetween lossOf metOf between obstacleTerm wallsTerm weatherTerm shareLevel around fractionOf sectionOf hD gamma lift z Dz
 figures-right = tt
 
 -- ---- a figure by its place in the table
@@ -55,19 +56,19 @@ above t = t .up - t .down
 
 day : above (level 0) ≡ 6028
 unfolding figures levels roads
-day = figure figures 19 figures-right
+day = figure figures 25 figures-right
 
 evening : above (level 1) ≡ 6028
 unfolding figures levels roads
-evening = figure figures 20 figures-right
+evening = figure figures 26 figures-right
 
 night : above (level 2) ≡ 5028
 unfolding figures levels roads
-night = figure figures 21 figures-right
+night = figure figures 27 figures-right
 
 energy : (t : Term) (n : ℕ) → above t ≡ suc n → energyShare t ≡ energyOf (suc n)
 unfolding energyShare
-energy t n e = rw (le-ltb (t .up) (t .down) (omega arith), e)
+energy t n e = energy-from-zero (t .up) (t .down) (omega arith) ∙ ap energyOf e
 
 soft : (t : Term) (n : ℕ) → above t ≡ n → n ≤ loudest → tooLoud t ≡ false
 soft t n e h = le-ltb loudest (above t) (omega arith)

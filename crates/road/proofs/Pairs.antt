@@ -12,8 +12,9 @@ use native.Mathlib.Omega.{arith}
 use lib.ListN.{getD}
 use lib.Dec.{leb, ltb, eqb}
 use borrow.Author.Tests.{lt-ltb, le-ltb, le-leb, lt-leb, ltb-true, ltb-false}
-use Rattle.level.specs.Level.{energyOf}
-use Rattle.level.proofs.Laws.{energy-rises, energy-rising, energy-decade}
+use Rattle.level.specs.Level.{energyOf, energyAt}
+use Rattle.level.proofs.Laws.{energy-rising, energy-decade}
+use Rattle.level.proofs.Signs.{energy-from-zero, energy-within}
 use Rattle.root.specs.Root.{rootOf}
 use Rattle.course.specs.declared.Piece.{Piece}
 use Rattle.course.specs.declared.Ends.{Ends}
@@ -100,15 +101,11 @@ loud-is t = go (decLe (t .up - t .down) loudest)
     top : energyOf loudest ≡ 1000000 * 10 ^ 9
     top = energy-decade 9
 
-    quiet : (b : Bool) → t .up - t .down ≤ loudest → cond b 0 (energyOf (t .up - t .down)) ≤ mostShare
-    quiet true h = omega arith
-    quiet false h = omega (arith, top, energy-rises (t .up - t .down) loudest h)
-
-    go : Dec (t .up - t .down ≤ loudest) → tooLoud t ≡ ltb mostShare (cond (ltb (t .up) (t .down)) 0 (energyOf (t .up - t .down)))
-    go (yes h) = le-ltb loudest (t .up - t .down) h ∙ sym (le-ltb mostShare _ (quiet (ltb (t .up) (t .down)) h))
+    go : Dec (t .up - t .down ≤ loudest) → tooLoud t ≡ ltb mostShare (energyAt (t .up) (t .down))
+    go (yes h) = le-ltb loudest (t .up - t .down) h ∙ sym (le-ltb mostShare _ (energy-within (t .up) (t .down) (omega arith)))
     go (no h) =
-        let l : mostShare < energyOf (t .up - t .down) = omega (arith, top, energy-rising loudest (t .up - t .down) (omega arith)) in
-        lt-ltb loudest (t .up - t .down) (omega arith) ∙ sym (rw (le-ltb (t .up) (t .down) (omega arith)) (lt-ltb mostShare _ l))
+        let l : mostShare < energyAt (t .up) (t .down) = omega (arith, top, energy-from-zero (t .up) (t .down) (omega arith), energy-rising loudest (t .up - t .down) (omega arith)) in
+        lt-ltb loudest (t .up - t .down) (omega arith) ∙ sym (lt-ltb mostShare _ l)
 
 -- a part that is too loud has no energy
 partWith : ℕ → Part

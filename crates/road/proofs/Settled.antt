@@ -103,6 +103,9 @@ judge-slot-settled l a = settled _ _
 energy-settled : SettlesResult level.energy.Reads.Post
 energy-settled l a = settled _ _
 
+energy-at-settled : SettlesResult level.energy_at.Reads.Post
+energy-at-settled l a = settled _ _
+
 level-settled : SettlesResult level.level.Reads.Post
 level-settled l a = settled _ _
 

@@ -1,6 +1,6 @@
 -- How the terms add up: bounds of each, that the order of adding does not matter, and the share of a voice case by case.
 -- Assumes nothing.
-use mathlib.Core.Path.{_≡_, refl, ap}
+use mathlib.Core.Path.{_≡_, refl, sym, ap}
 use mathlib.Core.Bool.{Bool, true, false, cond, _&&_}
 use mathlib.Core.List.{List, [], _∷_}
 use Prim.Native.Nat.{ℕ, zero, suc, _+_, _-_, _*_, _/_, _%_, _≤_, _<_, min}
@@ -9,7 +9,7 @@ use native.Mathlib.Omega.{arith}
 use lib.ListN.{getD}
 use lib.Dec.{T, leb, ltb, eqb, leb→le}
 use borrow.Author.Tests.{lt-ltb, le-ltb, eq-eqb}
-use Rattle.level.specs.Level.{energyOf}
+use Rattle.level.specs.Level.{energyAt}
 use Rattle.level.proofs.Every.{and-left, and-right}
 use Rattle.road.specs.declared.Term.{Term}
 use Rattle.road.specs.declared.Traffic.{Traffic}
@@ -201,18 +201,12 @@ unfolding voicedPart
 part-silent v t e = rw (e, voicedPart)
 
 module _ (v : Voice) (t : Term) (u d : ℕ) (e : v .sounds ≡ true) (up : u ≡ v .level .up + t .up) (down : d ≡ v .level .down + t .down) where
-  pub part-below : u < d → voicedPart v t ≡ record { loud = false; energy = 0 }
-  unfolding voicedPart energyShare
-  part-below h =
-      rw (e, le-ltb loudest ((v .level ⊕ t) .up - (v .level ⊕ t) .down) (omega arith), lt-ltb ((v .level ⊕ t) .up) ((v .level ⊕ t) .down) (omega arith), voicedPart, energyShare)
-
   pub part-loud : loudest < u - d → voicedPart v t ≡ record { loud = true; energy = 0 }
   unfolding voicedPart
   part-loud h = rw (e, lt-ltb loudest ((v .level ⊕ t) .up - (v .level ⊕ t) .down) (omega arith), voicedPart)
 
-  pub part-heard : d ≤ u → u - d ≤ loudest → voicedPart v t ≡ record { loud = false; energy = energyOf (u - d) }
+  pub part-heard : u - d ≤ loudest → voicedPart v t ≡ record { loud = false; energy = energyAt u d }
   unfolding voicedPart energyShare
-  part-heard h l =
-      let k : (v .level ⊕ t) .up - (v .level ⊕ t) .down ≡ u - d = omega arith in
-      rw (e, le-ltb loudest ((v .level ⊕ t) .up - (v .level ⊕ t) .down) (omega arith), le-ltb ((v .level ⊕ t) .up) ((v .level ⊕ t) .down) (omega arith), voicedPart, energyShare)
-      (ap (λ (n : ℕ). record { loud = false; energy = energyOf n }) k)
+  part-heard h =
+      rw (e, le-ltb loudest ((v .level ⊕ t) .up - (v .level ⊕ t) .down) (omega arith), voicedPart, energyShare)
+      (λ i. record { loud = false; energy = energyAt (sym up i) (sym down i) })

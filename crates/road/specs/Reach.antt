@@ -8,7 +8,7 @@ use mathlib.Core.Option.{Option, none, some}
 use mathlib.Core.List.{List, [], _∷_, List·Permᴰ}
 use lib.ListN.{getD}
 use lib.Dec.{leb, ltb, eqb}
-use Rattle.level.specs.Level.{lvOf, energyOf}
+use Rattle.level.specs.Level.{lvOf, energyAt}
 use Rattle.root.specs.Root.{rootOf}
 use Rattle.course.specs.declared.Piece.{Piece}
 use Rattle.course.specs.declared.Ends.{Ends}
@@ -112,9 +112,9 @@ shareLevel ws s p r i =
     ⊕ wallsTerm (s .walls) (s .height) (s .spacing)
     ⊕ weatherTerm (weatherOf i) (rayHeight r) (rootOf (planSquare p r))
 
--- the energy of a share level: one below 0 adds nothing
+-- the energy of a share level, which may lie below zero (METHOD 5)
 unfoldable pub energyShare : Term → ℕ
-energyShare t = cond (ltb (t .up) (t .down)) 0 (energyOf (t .up - t .down))
+energyShare t = energyAt (t .up) (t .down)
 
 -- a period without traffic has no share
 unfoldable pub shareOf : List Wall → Source → Piece → Receiver → ℕ → ℕ

@@ -5,7 +5,7 @@ use crate::chance::Chance;
 use crate::course::{pieces, Course, Piece, Point};
 use crate::cuts::{pair, span, spanned, within};
 use crate::fields::{FARTHEST, HEIGHT, LENGTH, WALL_HEIGHT};
-use crate::limits::{loud_road, tuned, way_of_square, Way, APART};
+use crate::limits::{any_way, loud_road, tuned, way_of_square, Way, APART};
 use crate::road::{root, Receiver, Source, LOUDEST, SOURCE_HEIGHT};
 use crate::town::{road, traffic, WIDE};
 use crate::wall::{Screen, Wall, LEAST_DETOUR, LONG_BEND, SHORT_BEND, SHORT_RAY};
@@ -251,15 +251,6 @@ fn stepped(chance: &mut Chance) -> Way {
     }
 }
 
-fn any_way(chance: &mut Chance) -> Way {
-    let farthest = chance.pick(&[2000, 12_000, 20_000, WIDE]);
-    Way {
-        dx: chance.between(APART, farthest) * chance.pick(&[-1, 1]),
-        dy: chance.between(APART, farthest) * chance.pick(&[-1, 1]),
-        height: chance.edge_in(&HEIGHT),
-    }
-}
-
 /// A receiver and a source for walls to be aimed between: uncut or between two ends, on a way of
 /// any kind; sometimes nothing drives there.
 pub fn screened_pair(chance: &mut Chance) -> (Receiver, Source) {
@@ -269,7 +260,10 @@ pub fn screened_pair(chance: &mut Chance) -> (Receiver, Source) {
     let way = match chance.between(0, 4) {
         0 | 1 => stepped(chance),
         2 => short_ray(chance),
-        _ => any_way(chance),
+        _ => {
+            let farthest = chance.pick(&[2000, 12_000, 20_000, WIDE]);
+            any_way(chance, farthest)
+        }
     };
     let receiver = way.receiver(chance);
     let apart = root(way.dx * way.dx + way.dy * way.dy);
@@ -359,11 +353,7 @@ pub fn turning_ray(chance: &mut Chance) -> (Receiver, Source, Wall) {
 /// A receiver, a source that is too loud for it, mostly just so, and a wall that takes enough or
 /// just not.
 pub fn loud_behind_a_wall(chance: &mut Chance) -> (Receiver, Source, Wall) {
-    let way = Way {
-        dx: chance.between(APART, 900) * chance.pick(&[-1, 1]),
-        dy: chance.between(APART, 900) * chance.pick(&[-1, 1]),
-        height: chance.edge_in(&HEIGHT),
-    };
+    let way = any_way(chance, 900);
     let receiver = way.receiver(chance);
     let mut source = way.place(loud_road(chance), &receiver);
     let special = chance.index(3);

@@ -4,6 +4,7 @@
 use crate::chance::Chance;
 use crate::course::{Course, Point, SHORT};
 use crate::fields::{FARTHEST, HEIGHT, LENGTH, VEHICLES};
+use crate::level::FAINTEST;
 use crate::limits::{
     loud_road, tuned_share, way_of_square, Way, FAR_STEPS, HALF_NEAREST, HALVES, NEAR_STEPS,
 };
@@ -19,8 +20,8 @@ pub type Span = (i64, i64);
 type Maker = fn(&mut Chance) -> (Receiver, Source);
 
 /// Makers of pairs, each for limits of its own.
-pub const MAKERS: [Maker; 9] = [
-    passing, leading, over, near, far, halved, stretched, loud, silent,
+pub const MAKERS: [Maker; 10] = [
+    passing, leading, over, near, far, halved, stretched, loud, faint, silent,
 ];
 
 /// Lengths at which a road between two ends is treated otherwise, and those beside them.
@@ -280,6 +281,23 @@ fn loud(chance: &mut Chance) -> (Receiver, Source) {
         } else {
             GREATEST_SHARE / 10
         };
+        if let Some(vehicles) = tuned_share(&source, &receiver, period, share) {
+            source.traffic[period].vehicles = vehicles - chance.between(0, 1);
+        }
+    }
+    (receiver, source)
+}
+
+/// A road whose pieces together bring just so much that it is heard in one period or in all, or just
+/// not; most of them are below zero, and often all.
+fn faint(chance: &mut Chance) -> (Receiver, Source) {
+    let receiver = somewhere(chance);
+    let length = chance.between(10_000, LENGTH.most());
+    let away = chance.between(length / 8, length);
+    let course = past(chance, &receiver, length, away);
+    let mut source = on(course, road(chance));
+    for period in 0..3 {
+        let share = chance.pick(&[FAINTEST, FAINTEST, FAINTEST / 10, FAINTEST / 1000]);
         if let Some(vehicles) = tuned_share(&source, &receiver, period, share) {
             source.traffic[period].vehicles = vehicles - chance.between(0, 1);
         }

@@ -408,6 +408,97 @@ fn walled_job() -> Vec<u8> {
     bytes_of(&job)
 }
 
+/// Roads 1200 m east of the receiver of the worked case: their length, their vehicles in every period,
+/// whether they have several lanes, and their reflection code. By night their share levels are
+pub const FAR_ROADS: [[i64; 4]; 12] = [
+    // 0, -1, -2,
+    [1000, 24_450, 0, 0],
+    [1000, 24_400, 0, 0],
+    [1000, 24_350, 0, 0],
+    // -999, -1000, -1001,
+    [100, 24_500, 0, 0],
+    [100, 24_450, 0, 0],
+    [100, 24_400, 0, 0],
+    // -2000, -2001,
+    [10, 24_450, 0, 0],
+    [10, 24_400, 0, 0],
+    // -2639, -5302,
+    [10, 5615, 0, 0],
+    [1, 770, 0, 4],
+    // -6000 and -6001
+    [1, 309, 1, 4],
+    [1, 308, 1, 4],
+];
+
+/// Of these, those of which a hundred together are heard, or just not.
+const HEARD_TOGETHER: usize = 8;
+
+/// The one of these at -1, two that bring it to just a million together, and the last two.
+const JUST_BELOW: usize = 1;
+const MAKES_UP: [usize; 2] = [8, 9];
+const ONE_UNIT: usize = 10;
+const NO_UNIT: usize = 11;
+
+/// One of these roads.
+pub fn far_source(road: usize) -> Source {
+    let [length, vehicles, several_lanes, reflection] = FAR_ROADS[road];
+    let trucks = 0;
+    Source {
+        course: Course::uncut(220_000, 100_000, length),
+        several_lanes,
+        reflection,
+        traffic: [Traffic { vehicles, trucks }; 3],
+        ..example_source()
+    }
+}
+
+fn place_far(slot: i64, road: usize) -> Record {
+    Record::PlaceSource(slot, far_source(road))
+}
+
+/// A job in which a road at -0.01 dB by night comes, a second one, and 298 more; then all but one go.
+pub fn valley_example() -> Vec<u8> {
+    let ask = Record::Ask(5);
+    let mut job = vec![Record::PlaceReceiver(5, example_receiver())];
+    job.extend([place_far(0, JUST_BELOW), ask, place_far(1, JUST_BELOW), ask]);
+    job.extend((2..300).map(|slot| place_far(slot, JUST_BELOW)));
+    job.push(ask);
+    job.extend((1..300).map(Record::WithdrawSource));
+    job.push(ask);
+    bytes_of(&job)
+}
+
+/// A job in which far roads come to just a million by night: the one at -0.01 dB with two others, and
+/// with four that bring one unit each in place of the second. Four that bring none change nothing.
+pub fn verge_example() -> Vec<u8> {
+    let ask = Record::Ask(5);
+    let [second, third] = MAKES_UP;
+    let mut job = vec![
+        Record::PlaceReceiver(5, example_receiver()),
+        place_far(0, JUST_BELOW),
+        place_far(1, second),
+        place_far(2, third),
+        ask,
+        Record::WithdrawSource(2),
+    ];
+    job.extend((2..6).map(|slot| place_far(slot, NO_UNIT)));
+    job.push(ask);
+    job.extend((6..10).flat_map(|slot| [place_far(slot, ONE_UNIT), ask]));
+    bytes_of(&job)
+}
+
+/// A job in which a hundred and one of the same far road come and go one by one, for each of which a
+/// hundred can be heard together.
+fn together_job() -> Vec<u8> {
+    let ask = Record::Ask(5);
+    let mut job = vec![Record::PlaceReceiver(5, example_receiver())];
+    for road in 0..HEARD_TOGETHER {
+        job.extend((0..=100).flat_map(|slot| [place_far(slot, road), ask]));
+        job.extend((0..=100).flat_map(|slot| [Record::WithdrawSource(slot), ask]));
+    }
+    bytes_of(&job)
+}
+
 /// A record with all fields wrong from one on that can be, for one field after the other.
 fn wrong_from_each(record: Record, bits: impl Fn(&Field) -> u32) -> Vec<Record> {
     wrong_from(record, record.fields(), bits)
@@ -476,6 +567,9 @@ pub fn fixed_jobs() -> Vec<Vec<u8>> {
         Vec::new(),
         example(),
         walled_example(),
+        valley_example(),
+        verge_example(),
+        together_job(),
         parade(&trial_records(|field| field.bits)),
         parade(&surfaced_records()),
         parade(&worked_records()),
@@ -617,6 +711,34 @@ fn wall_frames() -> Vec<Frame> {
     frames
 }
 
+/// Probes of far roads: each placed beside the receiver of the worked case, there when it is placed,
+/// and withdrawn where its sums are just enough for it, or one of them is not.
+fn far_frames() -> Vec<Frame> {
+    let receiver = example_receiver();
+    let (leave, stays) = (
+        Record::WithdrawSource(0),
+        Record::PlaceReceiver(5, receiver),
+    );
+    let mut frames = Vec::new();
+    for road in 0..FAR_ROADS.len() {
+        let mut book = Book::cleared();
+        book.apply(&stays);
+        let place = place_far(0, road);
+        frames.extend(frames_on(&encode(&book), &[place]));
+        book.apply(&place);
+        frames.extend(frames_on(&encode(&book), &[leave, Record::Ask(5)]));
+        for period in 0..3 {
+            let mut short = book.clone();
+            let account = short.accounts[5].as_mut().expect("the receiver stands");
+            account.sums[period] = (account.sums[period] - 1).max(0);
+            frames.extend(frames_on(&encode(&short), &[leave]));
+        }
+        book.apply(&Record::WithdrawReceiver(5));
+        frames.extend(frames_on(&encode(&book), &[stays]));
+    }
+    frames
+}
+
 /// Probes of courses: sources between two ends placed and standing, and every byte that may say how
 /// four numbers are to be taken, where they can be taken in either way.
 fn course_frames() -> Vec<Frame> {
@@ -734,6 +856,7 @@ pub fn fixed_frames() -> Vec<Frame> {
     frames.extend(field_frames());
     frames.extend(course_frames());
     frames.extend(wall_frames());
+    frames.extend(far_frames());
     frames.extend(paired_frames());
     frames.extend(byte_frames());
     frames.extend(length_frames());

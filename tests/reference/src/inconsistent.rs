@@ -6,6 +6,7 @@ use crate::book::{decode, mean_energy, Account, Book, TOP};
 use crate::chance::Chance;
 use crate::course::Course;
 use crate::cuts::{pair, receiver_beside, span, spanned};
+use crate::faint::{road_of_level, FAINT_LEVELS};
 use crate::fields::{
     FARTHEST, HEIGHT, LENGTH, RECEIVERS, RECEIVER_SLOT, SOURCES, SOURCE_SLOT, TRUCKS, VEHICLES,
     WALLS, WALL_SLOT,
@@ -13,8 +14,8 @@ use crate::fields::{
 use crate::fixed::example_receiver;
 use crate::level::{energy, level, FAINTEST};
 use crate::limits::{
-    loud_road, tuned, tuned_by_day, way_of_square, Way, APART, FAR_STEPS, HALF_NEAREST, HALVES,
-    NEAR_STEPS, ROOM,
+    any_way, loud_road, tuned, tuned_by_day, way_of_square, Way, APART, FAR_STEPS, HALF_NEAREST,
+    HALVES, NEAR_STEPS, ROOM,
 };
 use crate::probe::Frame;
 use crate::record::{take, Record};
@@ -400,6 +401,11 @@ fn tight_numbers(chance: &mut Chance) -> (i64, i64) {
 pub(crate) fn cut_pair(chance: &mut Chance) -> Frame {
     let (receiver, source) = pair(chance);
     let frame = lone_pair(chance, receiver, Record::PlaceSource(0, source));
+    sometimes_tight(chance, frame)
+}
+
+/// The same probe or, every other time, with sums that are just enough for it, or just not.
+fn sometimes_tight(chance: &mut Chance, frame: Frame) -> Frame {
     match decode(&frame.image) {
         Some(book) if chance.one_in(2) => tight_sums(chance, book, frame),
         _ => frame,
@@ -448,10 +454,26 @@ pub(crate) fn tight_level(chance: &mut Chance) -> Frame {
     tuned_pair(chance, road, 600, [LOUDEST - 500, LOUDEST + 1])
 }
 
-/// A pair of which one period's share level is just zero, or just below it.
+/// A pair of which the share levels are around zero or below it, just where their energy turns, with
+/// sums that are sometimes just enough for it, or just not.
 pub(crate) fn faint_level(chance: &mut Chance) -> Frame {
-    let road = road(chance).uncut(chance.magnitude(180));
-    tuned_pair(chance, road, WIDE, [1, 0])
+    let frame = if chance.one_in(3) {
+        let road = road(chance).uncut(chance.magnitude(180));
+        let levels = [(); 2].map(|()| chance.pick(&FAINT_LEVELS));
+        tuned_pair(chance, road, WIDE, levels)
+    } else {
+        exact_pair(chance)
+    };
+    sometimes_tight(chance, frame)
+}
+
+/// A pair of which every period's share level is just the same faint one, if such is found.
+fn exact_pair(chance: &mut Chance) -> Frame {
+    let receiver = any_way(chance, WIDE).receiver(chance);
+    let level = chance.pick(&FAINT_LEVELS);
+    let source = road_of_level(chance, &receiver, level);
+    let source = source.unwrap_or_else(|| road(chance).moved(receiver.x + APART, receiver.y));
+    lone_pair(chance, receiver, Record::PlaceSource(0, source))
 }
 
 /// A pair tuned to the first level in two periods and to the second in the other one, each

@@ -5,13 +5,14 @@ use crate::aims::{loud_behind_a_wall, screened_pair, wall_before};
 use crate::chance::Chance;
 use crate::cuts::{corner_roads, receiver_beside, stretched_roads, MAKERS};
 use crate::daily::Daily;
+use crate::faint::{roads_on_the_verge, valley, Valley, FAINT_LEVELS};
 use crate::fields::{
     widest, CLASS, DTV, FARTHEST, HEIGHT, LENGTH, RECEIVERS, RECEIVER_SLOT, SOURCES, SOURCE_SLOT,
     WALL_SLOT,
 };
 use crate::fixed::{example_receiver, one_of_each, with_ends};
 use crate::limits::{
-    loud_road, trial_values, tuned, tuned_by_day, way_of_square, Way, APART, FAR_STEPS,
+    any_way, loud_road, trial_values, tuned, tuned_by_day, way_of_square, Way, APART, FAR_STEPS,
     HALF_NEAREST, HALVES, NEAR_STEPS, PAPER_LENGTHS, PAPER_WAYS,
 };
 use crate::pieces::BUFFER;
@@ -24,7 +25,7 @@ use crate::town::{any_road, by_day, placing, road, traffic, Draft, Town, WIDE};
 /// What makes one kind of job.
 type Maker = fn(&mut Chance) -> Vec<u8>;
 
-const KINDS: [Maker; 25] = [
+const KINDS: [Maker; 27] = [
     town,
     churn,
     crowd,
@@ -33,10 +34,12 @@ const KINDS: [Maker; 25] = [
     far,
     long,
     cut,
+    cut,
     cut_late,
     ends,
     loud,
     faint,
+    far_together,
     fields,
     terms,
     sweep,
@@ -402,11 +405,7 @@ fn loud_walled(chance: &mut Chance) -> Vec<u8> {
 
 /// A receiver and a way to a source, from the nearest to the given distance.
 fn some_way(chance: &mut Chance, farthest: i64) -> (Receiver, Way) {
-    let way = Way {
-        dx: chance.between(APART, farthest) * chance.pick(&[-1, 1]),
-        dy: chance.between(APART, farthest) * chance.pick(&[-1, 1]),
-        height: chance.edge_in(&HEIGHT),
-    };
+    let way = any_way(chance, farthest);
     (way.receiver(chance), way)
 }
 
@@ -450,25 +449,85 @@ fn try_tuned_by_day(
     try_placings(draft, chance, receiver, Record::PlaceDaily(0, daily));
 }
 
-/// Share levels around zero, below which a source adds nothing.
+/// Share levels around zero and below it, of one road or of several that come to a certain sum.
 fn faint(chance: &mut Chance) -> Vec<u8> {
     let mut draft = Draft::default();
-    for _ in 0..80 {
+    for _ in 0..60 {
         let (receiver, way) = some_way(chance, WIDE);
         let source = road(chance).uncut(chance.magnitude(300));
-        let mut source = way.place(source, &receiver);
-        if chance.one_in(3) {
-            let level = chance.between(0, 1);
-            try_tuned_by_day(&mut draft, chance, receiver, source, level);
-            continue;
+        let source = way.place(source, &receiver);
+        match chance.between(0, 5) {
+            0 => {
+                let level = chance.pick(&FAINT_LEVELS);
+                try_tuned_by_day(&mut draft, chance, receiver, source, level);
+            }
+            1 | 2 => try_faint(&mut draft, chance, receiver, source),
+            _ => try_verge(&mut draft, chance, receiver),
         }
-        for period in 0..3 {
-            let level = chance.pick(&[-1, 0, 0, 1, 2, 700]);
-            let vehicles = tuned(&source, &receiver, period, level).unwrap_or(0);
-            source.traffic[period].vehicles = chance.pick(&[vehicles, vehicles, 0]);
-        }
-        try_placings(&mut draft, chance, receiver, Record::PlaceSource(0, source));
     }
+    draft.bytes
+}
+
+/// Tries a road with a faint level in each period, or with none.
+fn try_faint(draft: &mut Draft, chance: &mut Chance, receiver: Receiver, mut source: Source) {
+    for period in 0..3 {
+        let level = chance.pick(&FAINT_LEVELS);
+        let vehicles = tuned(&source, &receiver, period, level).unwrap_or(0);
+        source.traffic[period].vehicles = chance.pick(&[vehicles, vehicles, 0]);
+    }
+    try_placings(draft, chance, receiver, Record::PlaceSource(0, source));
+}
+
+/// Tries roads that come to a sum of which one unit decides, in any order; sometimes one of them has
+/// somewhat less traffic, or none, in one period.
+fn try_verge(draft: &mut Draft, chance: &mut Chance, receiver: Receiver) {
+    let Some(mut roads) = roads_on_the_verge(chance, &receiver) else {
+        return;
+    };
+    if chance.one_in(3) {
+        let at = chance.index(roads.len());
+        let traffic = &mut roads[at].traffic[chance.index(3)];
+        traffic.vehicles = chance.pick(&[0, traffic.vehicles - 1]);
+    }
+    let (r, first) = (chance.edge_in(&RECEIVER_SLOT), chance.edge(0, 500));
+    let mut come: Vec<Record> = (first..)
+        .zip(roads)
+        .map(|(slot, road)| Record::PlaceSource(slot, road))
+        .collect();
+    let go = come
+        .iter()
+        .map(|place| Record::WithdrawSource(place.slot()))
+        .collect();
+    come.push(Record::PlaceReceiver(r, receiver));
+    put_shuffled(draft, chance, come, r);
+    put_shuffled(draft, chance, go, r);
+    draft.put(Record::WithdrawReceiver(r));
+}
+
+/// Hundreds of far roads that are each below zero at a few receivers: they come one by one until they
+/// are heard together, a wall comes and goes, and they go until all is quiet again.
+fn far_together(chance: &mut Chance) -> Vec<u8> {
+    let mut draft = Draft::default();
+    let Valley { receivers, roads } = valley(chance);
+    let late = RECEIVER_SLOT.most();
+    for (slot, &receiver) in (0..).zip(&receivers) {
+        draft.put(Record::PlaceReceiver(slot, receiver));
+    }
+    let places = (0..).zip(&roads);
+    let come = places.map(|(slot, &road)| Record::PlaceSource(slot, road));
+    put_shuffled(&mut draft, chance, come.collect(), 0);
+    let wall = wall_before(chance, &roads[0].course, &receivers[0]);
+    for record in [
+        Record::PlaceWall(0, wall),
+        Record::PlaceReceiver(late, receivers[0]),
+        Record::WithdrawWall(0),
+    ] {
+        draft.put(record);
+        draft.ask_all(chance);
+    }
+    let go = (0..roads.len() as i64).map(Record::WithdrawSource);
+    put_shuffled(&mut draft, chance, go.collect(), late);
+    draft.ask_all(chance);
     draft.bytes
 }
 

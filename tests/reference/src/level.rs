@@ -1,4 +1,4 @@
-// Levels and energies: the table Z, the energy of a level and the level of an energy.
+// Levels and energies: the table Z, the energy of a level of either sign and the level of an energy.
 // Levels are whole hundredths of a decibel; the energy of level 0 is one million.
 
 use std::sync::LazyLock;
@@ -34,9 +34,22 @@ pub fn entry(k: usize) -> i64 {
     Z[k]
 }
 
-/// The energy of a level, which must not be negative.
+/// The energy of a level of either sign.
 pub fn energy(level: i64) -> i64 {
+    if level < 0 {
+        return faint_energy(level);
+    }
     Z[(level % STEPS) as usize] * TENS[(level / STEPS) as usize]
+}
+
+/// The energy of a level below 0: that of the level so many whole ten decibels above it that is not
+/// below 0 any more, divided by as many tens, down.
+fn faint_energy(level: i64) -> i64 {
+    let decades = (STEPS - 1 - level) / STEPS;
+    match TENS.get(decades as usize) {
+        Some(tens) => Z[(level + STEPS * decades) as usize] / tens,
+        None => 0,
+    }
 }
 
 /// The greatest level whose energy is at most the given one; none below a million.
@@ -67,6 +80,45 @@ mod tests {
         }
         assert!(!nearest(entry(1) - 1, 1));
         assert!(!nearest(entry(1) + 1, 1));
+    }
+
+    #[test]
+    fn energies_of_levels_below_0() {
+        let worked = [
+            (0, 1_000_000),
+            // Z[999] = 9977001, a tenth of it down
+            (-1, 997_700),
+            // Z[1] = 1002305
+            (-999, 100_230),
+            (-1000, 100_000),
+            (-1001, 99_770),
+            (-2000, 10_000),
+            (-5999, 1),
+            (-6000, 1),
+            // Z[999] again, which is less than ten million
+            (-6001, 0),
+            (-7000, 0),
+            (-18_000, 0),
+            (-18_001, 0),
+            (-100_000, 0),
+        ];
+        for (level, expected) in worked {
+            assert_eq!(energy(level), expected, "{level}");
+        }
+    }
+
+    #[test]
+    fn a_louder_level_never_has_less_energy() {
+        for level in -7000..9000 {
+            assert!(energy(level) <= energy(level + 1), "{level}");
+        }
+    }
+
+    #[test]
+    fn ten_decibels_below_are_a_tenth() {
+        for level in -7000..9000 {
+            assert_eq!(energy(level) / 10, energy(level - 1000), "{level}");
+        }
     }
 
     #[test]

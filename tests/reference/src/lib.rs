@@ -8,6 +8,7 @@ pub mod compare;
 pub mod course;
 pub mod cuts;
 pub mod daily;
+pub mod faint;
 pub mod fields;
 pub mod fixed;
 mod inconsistent;

@@ -129,6 +129,15 @@ fn turned(chance: &mut Chance, way: Way) -> Way {
     }
 }
 
+/// A way to any side, from the nearest to the given distance along both axes.
+pub fn any_way(chance: &mut Chance, farthest: i64) -> Way {
+    Way {
+        dx: chance.between(APART, farthest) * chance.pick(&[-1, 1]),
+        dy: chance.between(APART, farthest) * chance.pick(&[-1, 1]),
+        height: chance.edge_in(&HEIGHT),
+    }
+}
+
 impl Way {
     /// A receiver with room around it.
     pub fn receiver(&self, chance: &mut Chance) -> Receiver {
@@ -179,6 +188,13 @@ fn level_with(source: &Source, receiver: &Receiver, period: usize, vehicles: i64
 pub fn tuned(source: &Source, receiver: &Receiver, period: usize, level: i64) -> Option<i64> {
     let lifts = |vehicles| level_with(source, receiver, period, vehicles) >= Some(level);
     least(VEHICLES.most(), lifts)
+}
+
+/// The least traffic that brings one period's share level to just the given one, if any does.
+pub fn tuned_to(source: &Source, receiver: &Receiver, period: usize, level: i64) -> Option<i64> {
+    let vehicles = tuned(source, receiver, period, level)?;
+    let found = level_with(source, receiver, period, vehicles);
+    (found == Some(level)).then_some(vehicles)
 }
 
 /// The least traffic that lifts one period's share to the given one at least, if any does.

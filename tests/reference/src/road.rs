@@ -401,11 +401,9 @@ pub fn heard(
 /// Energies of day, evening and night.
 pub type Shares = [i64; 3];
 
+/// The energy of a share level of either sign; none where nothing drives.
 fn share(level: Option<i64>) -> i64 {
-    match level {
-        Some(level) if level >= 0 => energy(level),
-        _ => 0,
-    }
+    level.map_or(0, energy)
 }
 
 /// What an uncut source brings to a receiver, however loud; or refusal 10, 11, 12 or 14.

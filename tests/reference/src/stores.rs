@@ -32,7 +32,7 @@ use crate::wall::Wall;
 type Maker = fn(&mut Chance) -> Frame;
 
 /// The kinds of probes, with the names they are counted by.
-const KINDS: [(&str, Maker); 45] = [
+const KINDS: [(&str, Maker); 48] = [
     ("sound", sound),
     ("unread", unread),
     ("disallowed", disallowed),
@@ -62,6 +62,7 @@ const KINDS: [(&str, Maker); 45] = [
     ("cut-pair", cut_pair),
     ("cut-pair", cut_pair),
     ("cut-pair", cut_pair),
+    ("cut-pair", cut_pair),
     ("wall-field", wall_field),
     ("wall-field", wall_field),
     ("screened", screened),
@@ -74,6 +75,8 @@ const KINDS: [(&str, Maker); 45] = [
     ("turning", turning),
     ("tight-square", tight_square),
     ("tight-level", tight_level),
+    ("faint-level", faint_level),
+    ("faint-level", faint_level),
     ("faint-level", faint_level),
     ("asked", asked),
     ("asked", asked),

@@ -12,7 +12,7 @@ use reference::road::{Refusal, FAST_ABOVE, FAST_SURFACE, NUMBERS};
 use reference::stores::frame;
 use reference::writing::{fixed_writings, writing, Writing};
 
-const SEEDS: std::ops::RangeInclusive<u64> = 1..=600;
+const SEEDS: std::ops::RangeInclusive<u64> = 1..=1000;
 
 #[test]
 fn jobs_meet_every_refusal() {

@@ -6,6 +6,7 @@ use reference::course::{pieces, Course, Piece, SHORT};
 use reference::fields::LENGTH;
 use reference::fixed::{fixed_frames, fixed_jobs};
 use reference::jobs::job;
+use reference::level::FAINTEST;
 use reference::limits::{FAR_STEPS, NEAR_STEPS};
 use reference::record::{extent, kind_in, read, take, Record};
 use reference::road::{
@@ -89,6 +90,8 @@ struct Met {
     silent_and_near: u64,
     silent_and_cut: u64,
     faint_in_part: u64,
+    faint_and_heard: u64,
+    faint_and_quiet: u64,
     squares: BTreeSet<i64>,
     excess: BTreeSet<i64>,
     lengths: BTreeSet<i64>,
@@ -173,6 +176,10 @@ impl Met {
             self.loud_and_near += u64::from(near && part > 1.001);
             let faint = levels.iter().filter(|&&level| level < 0).count();
             self.faint_in_part += u64::from(0 < faint && faint < levels.len());
+            let all_faint = many && !refused && faint == levels.len();
+            let heard = part * GREATEST_SHARE as f64 / FAINTEST as f64;
+            self.faint_and_heard += u64::from(all_faint && heard > 1.001);
+            self.faint_and_quiet += u64::from(all_faint && (0.9..0.999).contains(&heard));
         }
     }
 
@@ -211,6 +218,8 @@ impl Met {
             self.silent_and_near,
             self.silent_and_cut,
             self.faint_in_part,
+            self.faint_and_heard,
+            self.faint_and_quiet,
         ];
         assert!(counts.iter().all(|&count| count >= least), "{counts:?}");
         let met = |step: &i64, limit: i64| self.squares.contains(&(limit + step));

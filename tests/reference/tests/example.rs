@@ -1,8 +1,9 @@
-// The example job that is handed out, held against its listing.
+// The example jobs that are handed out, held against their listings.
 // Whoever changes one of the two has to make the other anew.
 
 use reference::book::{Answer, Book};
 use reference::course::{pieces, Course};
+use reference::limits::uncut_levels;
 use reference::listing::list;
 use reference::record::{extent, listed_kinds, read, Record};
 use std::collections::BTreeSet;
@@ -13,9 +14,9 @@ fn example(name: &str) -> Vec<u8> {
     std::fs::read(folder.join(name)).unwrap()
 }
 
-/// The records of the example job.
-fn records() -> Vec<Record> {
-    let job = example("bypass.job");
+/// The records of an example job.
+fn records(name: &str) -> Vec<Record> {
+    let job = example(name);
     let mut rest = job.as_slice();
     let mut records = Vec::new();
     while !rest.is_empty() {
@@ -37,7 +38,7 @@ fn the_bypass_has_its_listing() {
 
 #[test]
 fn the_bypass_has_records_of_every_kind() {
-    let kinds: BTreeSet<u8> = records().iter().map(Record::kind).collect();
+    let kinds: BTreeSet<u8> = records("bypass.job").iter().map(Record::kind).collect();
     assert_eq!(kinds, BTreeSet::from_iter(listed_kinds()));
 }
 
@@ -45,7 +46,7 @@ fn the_bypass_has_records_of_every_kind() {
 fn village() -> [Vec<i64>; 3] {
     let mut book = Book::cleared();
     let mut answers: [Vec<i64>; 3] = Default::default();
-    for record in records() {
+    for record in records("bypass.job") {
         if let (Record::Ask(slot @ 3..=5), Answer::Levels(levels)) = (record, book.apply(&record)) {
             answers[slot as usize - 3].extend(levels.den);
         }
@@ -65,14 +66,15 @@ fn the_village_hears_less_behind_the_wall_and_least_behind_the_higher_one() {
 
 #[test]
 fn every_road_of_the_bypass_is_cut_before_some_receiver_and_whole_before_another() {
-    let receivers: Vec<_> = records()
-        .into_iter()
+    let records = records("bypass.job");
+    let receivers: Vec<_> = records
+        .iter()
         .filter_map(|record| match record {
-            Record::PlaceReceiver(_, receiver) => Some(receiver),
+            Record::PlaceReceiver(_, receiver) => Some(*receiver),
             _ => None,
         })
         .collect();
-    let sources = records().into_iter().filter_map(|record| record.source());
+    let sources = records.iter().filter_map(|record| record.source());
     let courses = sources.map(|source| source.course);
     let roads: Vec<Course> = courses
         .filter(|course| matches!(course, Course::Between { .. }))
@@ -83,4 +85,34 @@ fn every_road_of_the_bypass_is_cut_before_some_receiver_and_whole_before_another
         let counts: BTreeSet<usize> = counts.collect();
         assert!(counts.contains(&1) && counts.len() > 1, "{road:?}");
     }
+}
+
+#[test]
+fn the_valley_is_quiet_then_heard_and_quiet_again() {
+    let mut listing = Vec::new();
+    let tally = list(&example("valley.job"), &mut listing);
+    assert_eq!(listing, example("valley.listing"));
+    assert_eq!(tally.refusals.iter().sum::<u64>(), 0);
+    let listing = String::from_utf8(listing).unwrap();
+    let heard: Vec<bool> = listing
+        .lines()
+        .map(|line| !line.ends_with("--.- --.-"))
+        .collect();
+    assert_eq!(heard, [false, true, true, true, false, true], "{listing}");
+}
+
+#[test]
+fn no_segment_of_the_valley_has_a_level_by_itself() {
+    let records = records("valley.job");
+    let Record::PlaceReceiver(_, farm) = records[0] else {
+        panic!("the farm comes first");
+    };
+    let sources = records.iter().filter_map(|record| record.source());
+    let levels: Vec<i64> = sources
+        .flat_map(|source| uncut_levels(&source, &farm))
+        .flatten()
+        .collect();
+    assert_eq!(levels.len(), 3 * 300);
+    assert_eq!(levels.iter().max(), Some(&-400));
+    assert_eq!(levels.iter().step_by(3).min(), Some(&-1110));
 }

@@ -362,7 +362,7 @@ fn jobs_meet_every_manner_in_which_walls_lie_to_a_way() {
 #[test]
 fn probes_meet_every_manner_in_which_walls_lie_to_a_way() {
     let mut met = Met::default();
-    for frame in (1..=5000).map(frame) {
+    for frame in (1..=8000).map(frame) {
         if let (Some(book), Ok((record, _))) = (decode(&frame.image), read(&frame.record)) {
             met.meet_record(&book, &record);
         }

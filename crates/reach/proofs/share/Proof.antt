@@ -1,4 +1,4 @@
--- `share` is the energy of a voice's level at a point: nothing below 0, and too loud above 90 dB. Assumes nothing.
+-- `share` is the energy of a voice's level at a point, below zero too, and too loud above 90 dB. Assumes nothing.
 use mathlib.Core.Path.{_≡_, refl, sym, ap, ap₂, _∙_}
 use Prim.Native.Nat.{ℕ, _+_, _-_, _*_, _/_, _≤_, _<_}
 use native.Mathlib.Omega.{arith}
@@ -10,7 +10,7 @@ use Rattle.road.specs.declared.Voice.{Voice}
 use Rattle.road.specs.declared.Part.{Part}
 use Rattle.road.specs.Term.{_⊕_}
 use Rattle.road.specs.Reach.{weatherTerm}
-use Rattle.road.proofs.Sums.{part-silent, part-below, part-loud, part-heard}
+use Rattle.road.proofs.Sums.{part-silent, part-loud, part-heard}
 use Rattle.road.proofs.Pairs.{weather-most}
 use Rattle.reach.proofs.share.Statement.{statement}
 use Rattle.reach.proofs.share.Tie as tie
@@ -28,12 +28,6 @@ add-down c = search needs
 
 weather-requires : tie.Need-weather-requires
 weather-requires c κs = search needs
-
-add-down-2 : tie.Need-add-down-2
-add-down-2 c =
-    let start = c .before .before .before .before .before .before .before .before in
-    let a = start .args in
-    omega (arith, start .pre .0 .1 .down, start .pre .0 .3, start .pre .1 .0, c .weather .ensures, weather-most (a .c) (a .h) (a .near))
 
 -- the two sides of the level at the point
 module _ (c : tie.After-weather) where
@@ -62,20 +56,29 @@ module _ (c : tie.After-weather) where
   down-is : down ≡ v .level .down + t .down
   down-is = omega (arith, c .weather .ensures)
 
+-- what the code adds up fits
+down-most : (c : tie.After-weather) → down c ≤ 300000
+down-most c =
+    let a = start c .args in
+    omega (arith, start c .pre .0 .1 .down, start c .pre .0 .3, start c .pre .1 .0, c .weather .ensures, weather-most (a .c) (a .h) (a .near))
+
+add-down-2 : tie.Need-add-down-2
+add-down-2 c = omega (arith, down-most c)
+
+add-if2 : tie.Need-add-if2
+add-if2 c = omega (arith, down-most c)
+
 returns-2 : tie.Need-returns-2
-returns-2 c = let w = c .before in sym (part-below (v w) (t w) (up w) (down w) (sounds w) (up-is w) (down-is w) (omega arith))
+returns-2 c = let w = c .before in sym (part-loud (v w) (t w) (up w) (down w) (sounds w) (up-is w) (down-is w) (omega arith))
+
+energy-at-requires : tie.Need-energy-at-requires
+energy-at-requires c κs = search needs
 
 returns-3 : tie.Need-returns-3
-returns-3 c = let w = c .before .before in sym (part-loud (v w) (t w) (up w) (down w) (sounds w) (up-is w) (down-is w) (omega arith))
-
-energy-requires : tie.Need-energy-requires
-energy-requires c κs = (start (c .before .before) .pre .0 .0, omega (arith, c .if3 .left))
-
-returns-4 : tie.Need-returns-4
-returns-4 c =
-    let w = c .before .before .before in
-    ap (λ (n : ℕ). record { loud = false; energy = n }) (c .energy .ensures)
-    ∙ sym (part-heard (v w) (t w) (up w) (down w) (sounds w) (up-is w) (down-is w) (c .before .before .if2 .left) (omega (arith, c .before .if3 .left)))
+returns-3 c =
+    let w = c .before .before in
+    ap (λ (n : ℕ). record { loud = false; energy = n }) (c .energy-at .ensures)
+    ∙ sym (part-heard (v w) (t w) (up w) (down w) (sounds w) (up-is w) (down-is w) (omega (arith, c .before .if2 .left)))
 
 pub share-spec : {M : Type 1} → statement M
-share-spec = tie.close (tie.spec returns add-up add-down weather-requires add-down-2 returns-2 returns-3 energy-requires returns-4)
+share-spec = tie.close (tie.spec returns add-up add-down weather-requires add-down-2 add-if2 returns-2 energy-at-requires returns-3)
