@@ -5,8 +5,6 @@ use course::Course;
 use road::Source;
 use road::Traffic;
 use road::Verdict;
-use road::fields;
-use road::judge;
 ghost use mathlib.Core.Path.{_≡_};
 ghost use mathlib.Core.List.{[], _++_};
 ghost use Prim.Native.Nat.{_*_, _^_, _≤_, _<_};

@@ -13,8 +13,6 @@ use road::Source;
 use road::Term;
 use road::Traffic;
 use road::Verdict;
-use road::emission;
-use road::judge;
 ghost use mathlib.Core.Path.{_≡_};
 ghost use Prim.Native.Nat.{_≤_};
 ghost use Rattle.course.specs.Course.{wholeOf};

@@ -3,7 +3,6 @@
 use crate::print;
 use road::Term;
 use road::Traffic;
-use road::emission;
 ghost use mathlib.Core.Path.{_≡_};
 ghost use Rattle.level.specs.Table.{table};
 

@@ -172,7 +172,7 @@ fn hear_slot(
         return tallies;
     }
     let s = store::sources::source_slot(store, i).source;
-    let sent = road::emission::send(steps, s);
+    let sent = emission::send(steps, s);
     hear_all(steps, walls, s, sent, tallies)
 }
 

@@ -1,7 +1,6 @@
 // The standing walls of a book as numbers, five for each, gathered once for a call: as they are, or as they would be with one slot changed.
 // What the numbers are is `laid` of the crate screen.
 use course::Ends;
-use road::fields;
 use screen::Wall;
 use store::WallSlot;
 ghost use mathlib.Core.Path.{_≡_};

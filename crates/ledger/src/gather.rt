@@ -43,7 +43,7 @@ fn hear_source(steps: &[u32; 1000], walls: &[u64], store: &[u8], i: usize, r: Re
         return Offer::Free;
     }
     let s = store::sources::source_slot(store, i).source;
-    let sent = road::emission::send(steps, s);
+    let sent = emission::send(steps, s);
     match reach::pair(steps, walls, s, sent, r) {
         Pair::Heard(shares) => Offer::Heard(shares),
         Pair::Barred(bar) => Offer::Barred(bar),

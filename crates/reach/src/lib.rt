@@ -299,7 +299,7 @@ fn along(
         );
         return join(a, b);
     }
-    let length = road::emission::length(steps, whole.length);
+    let length = emission::length(steps, whole.length);
     alone(
         steps,
         walls,

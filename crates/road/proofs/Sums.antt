@@ -15,7 +15,7 @@ use Rattle.road.specs.declared.Term.{Term}
 use Rattle.road.specs.declared.Traffic.{Traffic}
 use Rattle.road.specs.declared.Source.{Source}
 use Rattle.road.specs.declared.Voice.{Voice}
-use Rattle.road.specs.declared.emission.Pace.{Pace}
+use Rattle.road.specs.declared.Pace.{Pace}
 use Rattle.road.specs.Term.{_⊕_, period}
 use Rattle.road.specs.Emission.{vehicles, trafficTerm, carSpeed, truckSpeed, truckGain, speedTerm, surfaceTable, surfaceColumn, surfaceEntry, surfaceTerm, gradientTerm, reflectionTable, reflectionTerm}
 use Rattle.road.specs.Reach.{lengthTerm, wallsTerm, energyShare, loudest}

@@ -19,7 +19,7 @@ use Rattle.road.specs.declared.Traffic.{Traffic}
 use Rattle.road.specs.declared.Voice.{Voice}
 use Rattle.road.specs.declared.Part.{Part}
 use Rattle.road.specs.declared.Sent.{Sent}
-use Rattle.road.specs.declared.emission.Pace.{Pace}
+use Rattle.road.specs.declared.Pace.{Pace}
 use Rattle.road.specs.Term.{term, _⊕_, period}
 use Rattle.road.specs.Emission.{emissionLevel, trafficTerm, surfaceTerm, gradientTerm, reflectionTerm, carSpeed, truckSpeed, truckGain, carLevel}
 use Rattle.road.specs.declared.Bar.{Bar}

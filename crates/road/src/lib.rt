@@ -1,10 +1,5 @@
 // Roads and the points where people live: which fields are allowed, and what a road gives out (VBUS sections 3.4, 3.5, 3.8).
 // Each term of the method is a definition of its own in specs/, those of the crate reach too; the code gives exactly their values.
-pub mod emission;
-pub mod fields;
-pub mod judge;
-pub mod limits;
-
 use answer::Refusal;
 use course::Course;
 use course::Piece;
@@ -42,6 +37,12 @@ pub struct Receiver {
 pub struct Term {
     pub up: u32,
     pub down: u32,
+}
+
+// What speed gives, for every p: one car's level, and how much more energy a truck has than a car.
+pub struct Pace {
+    pub car: u32,
+    pub gain: u64,
 }
 
 // What a metre of road sends out in one period: whether there is traffic at all, and its level.

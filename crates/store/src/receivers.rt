@@ -7,10 +7,9 @@ use crate::RECEIVERS;
 use crate::SPLIT;
 use crate::Seat;
 use crate::slot;
+use fields::BYTES;
+use fields::RECEIVER;
 use road::Verdict;
-use road::fields;
-use road::fields::BYTES;
-use road::fields::RECEIVER;
 ghost use mathlib.Core.Path.{_≡_};
 ghost use mathlib.Core.Bool.{true};
 ghost use mathlib.Core.List.{_∷_};
@@ -93,7 +92,7 @@ fn torn(v: &[u64; NUMBERS]) -> bool
     let h = held_from(v);
     let who = h.who;
     let sums = h.sums;
-    match road::judge::judge_receiver(who) {
+    match judge::judge_receiver(who) {
         Verdict::Allowed => !sums.sound(),
         Verdict::Refused(_) => true,
     }

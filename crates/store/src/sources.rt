@@ -5,12 +5,11 @@ use crate::SOURCES;
 use crate::SourceSlot;
 use crate::slot;
 use course::Course;
+use fields::BYTES;
+use fields::ENDS;
+use fields::SOURCE;
 use road::Source;
 use road::Verdict;
-use road::fields;
-use road::fields::BYTES;
-use road::fields::ENDS;
-use road::fields::SOURCE;
 ghost use mathlib.Core.Path.{_≡_};
 ghost use mathlib.Core.List.{_∷_, _++_};
 ghost use mathlib.Core.Option.{none, some};
@@ -134,7 +133,7 @@ fn torn(steps: &[u32; 1000], v: &[u64; NUMBERS]) -> bool
     if !is_course(v) {
         return true;
     }
-    match road::judge::judge_source(steps, source_from(v)) {
+    match judge::judge_source(steps, source_from(v)) {
         Verdict::Allowed => false,
         Verdict::Refused(_) => true,
     }

@@ -5,10 +5,9 @@ use crate::WALLS;
 use crate::WALLS_BEGIN;
 use crate::WallSlot;
 use crate::slot;
+use fields::BYTES;
+use fields::WALL;
 use road::Verdict;
-use road::fields;
-use road::fields::BYTES;
-use road::fields::WALL;
 use screen::Wall;
 ghost use mathlib.Core.Path.{_≡_};
 ghost use mathlib.Core.List.{_∷_};
@@ -82,7 +81,7 @@ fn torn(v: &[u64; NUMBERS]) -> bool
     if v[0] != 1 {
         return !slot::blank(v);
     }
-    match road::judge::judge_wall(wall_from(v)) {
+    match judge::judge_wall(wall_from(v)) {
         Verdict::Allowed => false,
         Verdict::Refused(_) => true,
     }

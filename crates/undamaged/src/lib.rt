@@ -39,7 +39,7 @@ fn change_source(steps: &[u32; 1000], store: &mut [u8], i: usize, s: Source, add
 {
     let mut numbers = [0u64; fences::NUMBERS];
     let n = fences::standing(store, &mut numbers);
-    let sent = road::emission::send(steps, s);
+    let sent = emission::send(steps, s);
     let found = round::go_round(steps, &numbers[..n], store, s, sent, adding);
     let stop = found.stop;
     match stop {
@@ -85,8 +85,8 @@ pub fn place_source(steps: &[u32; 1000], store: &mut [u8], slot: u16, s: Source)
     requires { ⌜ (now steps ≡ table) × (damaged (now store) ≡ false) ⌝ }
     ensures { λ r. ⌜ ((r, now (store .exit)) ≡ told (now (store .entry)) (placeSource slot s (bookOf (now (store .entry))))) × (damaged (now (store .exit)) ≡ false) ⌝ }
 {
-    let fields = road::judge::judge_source(steps, s);
-    match road::judge::judge_slot(store::LAST_SOURCE, slot, fields) {
+    let fields = judge::judge_source(steps, s);
+    match judge::judge_slot(store::LAST_SOURCE, slot, fields) {
         Verdict::Refused(why) => Answer::Refused(why),
         Verdict::Allowed => enter_source(steps, store, slot as usize, s),
     }
@@ -109,7 +109,7 @@ pub fn withdraw_source(steps: &[u32; 1000], store: &mut [u8], slot: u16) -> Answ
     requires { ⌜ (now steps ≡ table) × (damaged (now store) ≡ false) ⌝ }
     ensures { λ r. ⌜ ((r, now (store .exit)) ≡ told (now (store .entry)) (withdrawSource slot (bookOf (now (store .entry))))) × (damaged (now (store .exit)) ≡ false) ⌝ }
 {
-    match road::judge::judge_slot(store::LAST_SOURCE, slot, Verdict::Allowed) {
+    match judge::judge_slot(store::LAST_SOURCE, slot, Verdict::Allowed) {
         Verdict::Refused(why) => Answer::Refused(why),
         Verdict::Allowed => leave_source(steps, store, slot as usize),
     }
@@ -144,8 +144,8 @@ pub fn place_receiver(steps: &[u32; 1000], store: &mut [u8], slot: u16, r: Recei
     requires { ⌜ (now steps ≡ table) × (damaged (now store) ≡ false) ⌝ }
     ensures { λ a. ⌜ ((a, now (store .exit)) ≡ told (now (store .entry)) (placeReceiver slot r (bookOf (now (store .entry))))) × (damaged (now (store .exit)) ≡ false) ⌝ }
 {
-    let fields = road::judge::judge_receiver(r);
-    match road::judge::judge_slot(store::LAST_RECEIVER, slot, fields) {
+    let fields = judge::judge_receiver(r);
+    match judge::judge_slot(store::LAST_RECEIVER, slot, fields) {
         Verdict::Refused(why) => Answer::Refused(why),
         Verdict::Allowed => enter_receiver(steps, store, slot as usize, r),
     }
@@ -169,7 +169,7 @@ pub fn withdraw_receiver(store: &mut [u8], slot: u16) -> Answer
     requires { ⌜ damaged (now store) ≡ false ⌝ }
     ensures { λ r. ⌜ ((r, now (store .exit)) ≡ told (now (store .entry)) (withdrawReceiver slot (bookOf (now (store .entry))))) × (damaged (now (store .exit)) ≡ false) ⌝ }
 {
-    match road::judge::judge_slot(store::LAST_RECEIVER, slot, Verdict::Allowed) {
+    match judge::judge_slot(store::LAST_RECEIVER, slot, Verdict::Allowed) {
         Verdict::Refused(why) => Answer::Refused(why),
         Verdict::Allowed => leave_receiver(store, slot as usize),
     }
@@ -227,8 +227,8 @@ pub fn place_wall(steps: &[u32; 1000], store: &mut [u8], slot: u16, w: Wall) -> 
     requires { ⌜ (now steps ≡ table) × (damaged (now store) ≡ false) ⌝ }
     ensures { λ r. ⌜ ((r, now (store .exit)) ≡ told (now (store .entry)) (placeWall slot w (bookOf (now (store .entry))))) × (damaged (now (store .exit)) ≡ false) ⌝ }
 {
-    let fields = road::judge::judge_wall(w);
-    match road::judge::judge_slot(store::LAST_WALL, slot, fields) {
+    let fields = judge::judge_wall(w);
+    match judge::judge_slot(store::LAST_WALL, slot, fields) {
         Verdict::Refused(why) => Answer::Refused(why),
         Verdict::Allowed => enter_wall(steps, store, slot as usize, w),
     }
@@ -251,7 +251,7 @@ pub fn withdraw_wall(steps: &[u32; 1000], store: &mut [u8], slot: u16) -> Answer
     requires { ⌜ (now steps ≡ table) × (damaged (now store) ≡ false) ⌝ }
     ensures { λ r. ⌜ ((r, now (store .exit)) ≡ told (now (store .entry)) (withdrawWall slot (bookOf (now (store .entry))))) × (damaged (now (store .exit)) ≡ false) ⌝ }
 {
-    match road::judge::judge_slot(store::LAST_WALL, slot, Verdict::Allowed) {
+    match judge::judge_slot(store::LAST_WALL, slot, Verdict::Allowed) {
         Verdict::Refused(why) => Answer::Refused(why),
         Verdict::Allowed => leave_wall(steps, store, slot as usize),
     }
@@ -279,7 +279,7 @@ pub fn ask(steps: &[u32; 1000], store: &[u8], slot: u16) -> Answer
     requires { ⌜ (now steps ≡ table) × (damaged (now store) ≡ false) ⌝ }
     ensures { λ r. ⌜ (r, now (store .entry)) ≡ told (now (store .entry)) (askReceiver slot (bookOf (now (store .entry)))) ⌝ }
 {
-    match road::judge::judge_slot(store::LAST_RECEIVER, slot, Verdict::Allowed) {
+    match judge::judge_slot(store::LAST_RECEIVER, slot, Verdict::Allowed) {
         Verdict::Refused(why) => Answer::Refused(why),
         Verdict::Allowed => indices(steps, store, slot as usize),
     }

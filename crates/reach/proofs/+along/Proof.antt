@@ -31,7 +31,7 @@ use Rattle.reach.proofs.alone.Reads as alone-reads
 use Rattle.reach.proofs.join.Reads as join-reads
 use Rattle.reach.proofs.plan.Reads as plan-reads
 use Rattle.reach.proofs.space.Reads as space-reads
-use Rattle.road.proofs.emission.length.Reads as emission-length-reads
+use Rattle.emission.proofs.length.Reads as emission-length-reads
 use Rattle.reach.proofs.+along.{statement}
 use Rattle.reach.proofs.+along.Tie.{close}
 

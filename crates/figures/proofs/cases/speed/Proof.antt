@@ -5,7 +5,7 @@ use Prim.Native.Nat.{ℕ, _≤_, _<_}
 use native.Mathlib.Omega.{arith}
 use Rattle.level.specs.Table.{table}
 use Rattle.road.specs.declared.Source.{Source}
-use Rattle.road.specs.declared.emission.Pace.{Pace}
+use Rattle.road.specs.declared.Pace.{Pace}
 use Rattle.road.specs.Limits.{allTrucks}
 use Rattle.road.specs.Inner.{paceOf}
 use Rattle.road.proofs.Sums.{Paced, paced}
