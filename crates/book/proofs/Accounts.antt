@@ -13,7 +13,7 @@ use Rattle.road.specs.Pairs.{Pairing, brought, shareIn}
 use Rattle.store.specs.Account.{covers}
 use Rattle.ledger.specs.Lists.{sumOf, weigh}
 use Rattle.ledger.specs.Changes.{follow, coming, going}
-use Rattle.undamaged.proofs.Sums.{and-both}
+use Rattle.calls.proofs.Sums.{and-both}
 use Rattle.book.proofs.Slots.{perm-sum}
 
 module _ (pair : Pairing) where

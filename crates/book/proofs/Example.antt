@@ -20,15 +20,15 @@ use Rattle.road.proofs.Figures.{near-allowed, far-allowed, home-allowed, near-p
 use Rattle.index.specs.Index.{ldenOf, lnightOf}
 use Rattle.index.specs.declared.Index.the-variants.{Quiet, Tenths}
 use Rattle.store.specs.Store.{lastSource, lastReceiver, sourceSlots, receiverSlots, wallSlots}
-use Rattle.undamaged.specs.declared.Answer.{Answer}
-use Rattle.undamaged.specs.declared.Answer.the-variants.{Levels, Refused}
+use Rattle.calls.specs.declared.Answer.{Answer}
+use Rattle.calls.specs.declared.Answer.the-variants.{Levels, Refused}
 use Rattle.ledger.specs.Lists.{present}
-use Rattle.undamaged.specs.Calls.{told, placeSource}
+use Rattle.calls.specs.Calls.{told, placeSource}
 use Rattle.store.proofs.Laws.{many-sources}
 use Rattle.book.specs.History.{standingReceivers, Placing, source, receiver, calls, Rebuilds, Call, PlaceSource, WithdrawSource, PlaceReceiver}
 use Rattle.book.specs.History.{Ask, storeAfter, bookAfter, answerTo, Real, accepted, kept, lastAt, inSlots, standingSource, standingReceiver}
 use Rattle.book.specs.History.{standingSources, standingWall, standingWalls, levelsOf, Hears, Rule}
-use Rattle.undamaged.proofs.Answered.{by-taken}
+use Rattle.calls.proofs.Answered.{by-taken}
 use Rattle.book.proofs.Slots.{in-slots-at}
 use Rattle.book.proofs.Gates.{slot-passes}
 use Rattle.book.proofs.Laws.{StoreLaws, store-laws}

@@ -21,13 +21,13 @@ use Rattle.store.specs.Account.{sound, covers}
 use Rattle.store.specs.Store.{lastSource, lastReceiver, lastWall, Book, book, sourceSlots, receiverSlots, wallSlots, SourceStands, HeldStands}
 use Rattle.store.specs.Store.{WallStands, SoundBook}
 use Rattle.store.proofs.Laws.{many-sources, many-receivers, many-walls}
-use Rattle.undamaged.specs.declared.Answer.{Answer}
+use Rattle.calls.specs.declared.Answer.{Answer}
 use Rattle.ledger.specs.Lists.{omap, present, every, firstBar, weigh, All}
 use Rattle.ledger.specs.Changes.{follow, barOf, coming, going, together, renewing}
-use Rattle.undamaged.specs.Calls.{used, Step, tell, allow, fromUsed}
-use Rattle.undamaged.specs.Calls.{placeSource, withdrawSource, placeReceiver, withdrawReceiver, changeWall, placeWall, withdrawWall, askReceiver}
+use Rattle.calls.specs.Calls.{used, Step, tell, allow, fromUsed}
+use Rattle.calls.specs.Calls.{placeSource, withdrawSource, placeReceiver, withdrawReceiver, changeWall, placeWall, withdrawWall, askReceiver}
 use Rattle.road.proofs.Judged.{source-by, receiver-by, wall-by}
-use Rattle.undamaged.proofs.Sums.{HearsAll, all-map, and-both, bars-pass, never, weigh-sound}
+use Rattle.calls.proofs.Sums.{HearsAll, all-map, and-both, bars-pass, never, weigh-sound}
 use Rattle.book.specs.History.{Call, PlaceSource, WithdrawSource, PlaceReceiver, WithdrawReceiver, PlaceWall, WithdrawWall, Ask}
 use Rattle.book.specs.History.{RealCall, accepted, sourceMove, receiverMove, wallMove, inSlots, levelsOf, Hears, AllHear, Rule}
 use Rattle.book.proofs.Slots.{all-both, all-set, all-at, every-all, every-omap, omap-set, omap-twice, omap-unused}

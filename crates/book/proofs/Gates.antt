@@ -21,13 +21,13 @@ use Rattle.road.specs.declared.Verdict.the-variants.{Allowed, Refused as Barrin
 use Rattle.road.specs.Judge.{slotVerdict}
 use Rattle.road.proofs.Judged.{slot-allowed, ByFields, slot-by, by-apart}
 use Rattle.store.specs.Store.{Book}
-use Rattle.undamaged.specs.declared.Answer.{Answer}
+use Rattle.calls.specs.declared.Answer.{Answer}
 use Rattle.ledger.specs.Lists.{omap, orBar, firstBar}
 use Rattle.ledger.specs.Changes.{onward, together}
-use Rattle.undamaged.specs.Calls.{used, Step, refuse, tell, change, allow, intoFree, fromUsed, unlessBarred}
-use Rattle.undamaged.specs.Calls.{unlessLate}
+use Rattle.calls.specs.Calls.{used, Step, refuse, tell, change, allow, intoFree, fromUsed, unlessBarred}
+use Rattle.calls.specs.Calls.{unlessLate}
 use Rattle.road.specs.Pairs.{Pairing, isHeard}
-use Rattle.undamaged.proofs.Sums.{heardAll, HearsAll, never}
+use Rattle.calls.proofs.Sums.{heardAll, HearsAll, never}
 
 -- ---- gates: what the rule N allows comes past them and is fine; a refusal is not for damage, and is against the rule
 

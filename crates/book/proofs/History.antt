@@ -19,13 +19,13 @@ use Rattle.road.specs.declared.Receiver.{Receiver}
 use Rattle.store.specs.declared.Held.{Held}
 use Rattle.store.specs.Store.{Book, damaged, bookOf, bookBytes, storeLength, clearedBytes, emptyBook, book, sourceSlots, receiverSlots, wallSlots}
 use Rattle.store.specs.Store.{SourceStands, WallStands, SoundBook}
-use Rattle.undamaged.specs.declared.Answer.{Answer}
-use Rattle.undamaged.specs.declared.Answer.the-variants.{Done, Levels, Refused}
+use Rattle.calls.specs.declared.Answer.{Answer}
+use Rattle.calls.specs.declared.Answer.the-variants.{Done, Levels, Refused}
 use Rattle.road.specs.Reach.{pairOf}
 use Rattle.ledger.specs.Lists.{omap, present, weigh}
-use Rattle.undamaged.specs.Calls.{numberIn, Step, refuse, tell, change, told, onStore, clearStore, placeSource, withdrawSource}
-use Rattle.undamaged.specs.Calls.{placeReceiver, withdrawReceiver, placeWall, withdrawWall, askReceiver}
-use Rattle.undamaged.proofs.Sums.{HearsAll, never}
+use Rattle.calls.specs.Calls.{numberIn, Step, refuse, tell, change, told, onStore, clearStore, placeSource, withdrawSource}
+use Rattle.calls.specs.Calls.{placeReceiver, withdrawReceiver, placeWall, withdrawWall, askReceiver}
+use Rattle.calls.proofs.Sums.{HearsAll, never}
 use Rattle.book.specs.History.{Call, Clear, PlaceSource, WithdrawSource, PlaceReceiver, WithdrawReceiver, PlaceWall, WithdrawWall, Ask, perform}
 use Rattle.book.specs.History.{storeAfter, RealCall, answerTo, Real, accepted, kept, sourceMove, receiverMove, wallMove, allLeave, lastAt, inSlots}
 use Rattle.book.specs.History.{standingSource, standingReceiver, standingWall, standingSources, standingReceivers, standingWalls, SumsOf, HoldsWhatStands, NeverLate, Rule, AcceptsByRule}

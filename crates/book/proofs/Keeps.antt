@@ -10,10 +10,10 @@ use lib.ListN.{length}
 use Rattle.answer.specs.declared.Refusal.the-variants.{Damaged}
 use Rattle.store.specs.Store.{Book, damaged, bookOf, storeLength, clearedBytes}
 use Rattle.store.proofs.Laws.{cleared, sound-book}
-use Rattle.undamaged.specs.declared.Answer.{Answer}
-use Rattle.undamaged.specs.declared.Answer.the-variants.{Done, Refused}
-use Rattle.undamaged.specs.Calls.{Step, placeSource, withdrawSource, placeReceiver, withdrawReceiver, placeWall, withdrawWall, askReceiver, onStore, clearStore}
-use Rattle.undamaged.proofs.Keeps.{Keep, source-in, source-out, receiver-in, receiver-out, wall-in, wall-out, asked, told-sound}
+use Rattle.calls.specs.declared.Answer.{Answer}
+use Rattle.calls.specs.declared.Answer.the-variants.{Done, Refused}
+use Rattle.calls.specs.Calls.{Step, placeSource, withdrawSource, placeReceiver, withdrawReceiver, placeWall, withdrawWall, askReceiver, onStore, clearStore}
+use Rattle.calls.proofs.Keeps.{Keep, source-in, source-out, receiver-in, receiver-out, wall-in, wall-out, asked, told-sound}
 use Rattle.book.specs.History.{Call, Clear, PlaceSource, WithdrawSource, PlaceReceiver, WithdrawReceiver, PlaceWall, WithdrawWall, Ask, perform}
 use Rattle.book.specs.History.{RealCall}
 

@@ -23,11 +23,11 @@ use Rattle.road.proofs.Judged.{ByFields, source-by, receiver-by, wall-by, slot-
 use Rattle.store.specs.Store.{lastSource, lastReceiver, lastWall, Book, damaged, bookOf, storeLength, clearedBytes}
 use Rattle.ledger.specs.Lists.{present, every, firstBar}
 use Rattle.ledger.specs.Changes.{Change, barOf, coming, going, renewing}
-use Rattle.undamaged.specs.declared.Answer.{Answer}
-use Rattle.undamaged.specs.declared.Answer.the-variants.{Done, Refused}
-use Rattle.undamaged.specs.Calls.{numberIn, Step, refuse, tell, change, allow, intoFree, fromUsed, unlessBarred, unlessLate, pairIn}
-use Rattle.undamaged.specs.Calls.{placeSource, withdrawSource, placeReceiver, withdrawReceiver, placeWall, withdrawWall, askReceiver, told, onStore}
-use Rattle.undamaged.specs.Calls.{clearStore}
+use Rattle.calls.specs.declared.Answer.{Answer}
+use Rattle.calls.specs.declared.Answer.the-variants.{Done, Refused}
+use Rattle.calls.specs.Calls.{numberIn, Step, refuse, tell, change, allow, intoFree, fromUsed, unlessBarred, unlessLate, pairIn}
+use Rattle.calls.specs.Calls.{placeSource, withdrawSource, placeReceiver, withdrawReceiver, placeWall, withdrawWall, askReceiver, told, onStore}
+use Rattle.calls.specs.Calls.{clearStore}
 use Rattle.book.specs.History.{Call, Clear, PlaceSource, WithdrawSource, PlaceReceiver, WithdrawReceiver, PlaceWall, WithdrawWall, Ask, perform}
 use Rattle.book.specs.History.{BookNumber}
 use Rattle.book.proofs.Gates.{ByPair, bars-by}

@@ -12,12 +12,12 @@ use Rattle.road.specs.declared.Receiver.{Receiver}
 use Rattle.index.specs.Index.{ldenOf, lnightOf}
 use Rattle.store.specs.declared.Held.{Held}
 use Rattle.store.specs.Store.{sourceSlots, receiverSlots, wallSlots, SourceStands, WallStands}
-use Rattle.undamaged.specs.declared.Answer.the-variants.{Levels}
+use Rattle.calls.specs.declared.Answer.the-variants.{Levels}
 use Rattle.road.specs.Reach.{pairOf}
 use Rattle.road.specs.Pairs.{Pairing, isHeard}
 use Rattle.road.proofs.Pairs.{of-pairs}
 use Rattle.ledger.specs.Lists.{present, weigh, All}
-use Rattle.undamaged.proofs.Sums.{HearsAll, all-map, never}
+use Rattle.calls.proofs.Sums.{HearsAll, all-map, never}
 use Rattle.book.specs.History.{Call, answerTo, Real, accepted, kept, sourceMove, receiverMove, wallMove, lastAt, inSlots, standingSource}
 use Rattle.book.specs.History.{standingReceiver, standingWall, standingSources, standingReceivers, standingWalls, levelsOf, SumsOf, Hears, AllHear}
 use Rattle.book.specs.History.{Put, Placing, source, receiver, wall, asCall, calls, sourcesIn, receiversIn, wallsIn, WallsFirst, entriesOf, Apart}

@@ -14,8 +14,8 @@ use lib.ListN.{length, getD, set, replicate, length-set, length-replicate, getD-
 use lib.Seq.{getD-set-same, getD-set-other, ext-getD}
 use borrow.Author.Tests.{eqb-true, eqb-false, eq-eqb, ne-eqb}
 use Rattle.ledger.specs.Lists.{omap, present, every, sumOf, All}
-use Rattle.undamaged.specs.Calls.{used}
-use Rattle.undamaged.proofs.Sums.{and-both, never}
+use Rattle.calls.specs.Calls.{used}
+use Rattle.calls.proofs.Sums.{and-both, never}
 use Rattle.book.specs.History.{Move, enter, leave, allLeave, still, lastAt, inSlots, Put, entriesOf, Apart, inPlace}
 
 -- ---- what holds of each

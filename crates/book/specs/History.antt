@@ -20,11 +20,11 @@ use Rattle.road.specs.Judge.{sourceVerdict, receiverVerdict, wallVerdict}
 use Rattle.index.specs.Index.{ldenOf, lnightOf}
 use Rattle.store.specs.declared.Held.{Held}
 use Rattle.store.specs.Store.{Book, damaged, bookOf, clearedBytes, sourceSlots, receiverSlots, wallSlots}
-use Rattle.undamaged.specs.declared.Answer.{Answer}
-use Rattle.undamaged.specs.declared.Answer.the-variants.{Done, Levels, Refused}
+use Rattle.calls.specs.declared.Answer.{Answer}
+use Rattle.calls.specs.declared.Answer.the-variants.{Done, Levels, Refused}
 use Rattle.ledger.specs.Lists.{omap, present, All, sumOf}
-use Rattle.undamaged.specs.Calls.{numberIn, used, placeSource, withdrawSource, placeReceiver, withdrawReceiver, placeWall, withdrawWall}
-use Rattle.undamaged.specs.Calls.{askReceiver, onStore, clearStore}
+use Rattle.calls.specs.Calls.{numberIn, used, placeSource, withdrawSource, placeReceiver, withdrawReceiver, placeWall, withdrawWall}
+use Rattle.calls.specs.Calls.{askReceiver, onStore, clearStore}
 
 -- ---- a history: any calls, the latest first, refused ones among them
 

@@ -1,12 +1,12 @@
 // The book: sources, receivers and noise walls in a store that the caller lends, and the calls on it.
 // What each call answers and leaves, for every store, is a definition of undamaged/specs/Calls.antt; no call here requires anything.
 use answer::Refusal;
+pub use calls::Answer;
 use road::Receiver;
 use road::Source;
 use screen::Wall;
-pub use undamaged::Answer;
 ghost use mathlib.Core.Path.{_≡_};
-ghost use Rattle.undamaged.specs.Calls.{onStore, clearStore, placeSource, withdrawSource, placeReceiver, withdrawReceiver, placeWall, withdrawWall, askReceiver};
+ghost use Rattle.calls.specs.Calls.{onStore, clearStore, placeSource, withdrawSource, placeReceiver, withdrawReceiver, placeWall, withdrawWall, askReceiver};
 
 // Makes a store of the right length a book with nothing in it.
 pub fn clear(store: &mut [u8]) -> Answer

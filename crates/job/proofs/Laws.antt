@@ -15,9 +15,9 @@ use Rattle.codec.specs.Kinds.{longestRecord}
 use Rattle.answer.specs.declared.Refusal.the-variants.{Damaged}
 use Rattle.store.specs.Store.{damaged, storeLength, clearedBytes}
 use Rattle.store.proofs.Laws.{cleared}
-use Rattle.undamaged.specs.declared.Answer.{Answer}
-use Rattle.undamaged.specs.declared.Answer.the-variants.{Done, Refused}
-use Rattle.undamaged.specs.Calls.{clearStore}
+use Rattle.calls.specs.declared.Answer.{Answer}
+use Rattle.calls.specs.declared.Answer.the-variants.{Done, Refused}
+use Rattle.calls.specs.Calls.{clearStore}
 use Rattle.listing.specs.Listing.{lineRoom, endLine}
 use Rattle.machine.specs.declared.State.{State}
 use Rattle.machine.specs.declared.Progress.{Progress}

@@ -17,11 +17,11 @@ use Rattle.codec.specs.declared.Told.the-variants as told
 use Rattle.codec.specs.Record.{lengthOf, readOf, extentOf}
 use Rattle.codec.proofs.Trips.{three-periods}
 use Rattle.store.specs.Store.{Book, damaged}
-use Rattle.undamaged.specs.declared.Answer.{Answer}
-use Rattle.undamaged.specs.declared.Answer.the-variants as answer
-use Rattle.undamaged.specs.Calls.{refuse, placeSource, withdrawSource, placeReceiver, withdrawReceiver, placeWall, withdrawWall, askReceiver}
+use Rattle.calls.specs.declared.Answer.{Answer}
+use Rattle.calls.specs.declared.Answer.the-variants as answer
+use Rattle.calls.specs.Calls.{refuse, placeSource, withdrawSource, placeReceiver, withdrawReceiver, placeWall, withdrawWall, askReceiver}
 use Rattle.book.specs.History.{RealCall, perform}
-use Rattle.undamaged.proofs.Entries.{on-damaged, on-sound}
+use Rattle.calls.proofs.Entries.{on-damaged, on-sound}
 use Rattle.book.proofs.Theorems.{of-this-book}
 use Rattle.service.specs.declared.Outcome.{Outcome}
 use Rattle.service.specs.declared.Deed.{Deed}

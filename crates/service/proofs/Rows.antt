@@ -2,9 +2,9 @@
 -- Assumes nothing.
 use Prim.Native.Nat.{ℕ}
 use mathlib.Core.Path.{_≡_, refl}
-use Rattle.undamaged.specs.declared.Answer.{Answer}
-use Rattle.undamaged.specs.declared.Answer.the-variants as answer
-use Rattle.undamaged.specs.Calls as calls
+use Rattle.calls.specs.declared.Answer.{Answer}
+use Rattle.calls.specs.declared.Answer.the-variants as answer
+use Rattle.calls.specs.Calls as calls
 use Rattle.service.specs.Service.{outcomeOf, outcomeNumber, outcomePlace, Rows}
 use Rattle.service.proofs.Stops.{same-number, stops}
 

@@ -25,11 +25,11 @@ use Rattle.codec.specs.Kinds.{callIn, sourceIn, verdictOf}
 use Rattle.codec.specs.Record.{kindOf, lengthOf, valuesOf, cutShort, unknownKind, leftoverSet, judged, heard, readOf, extentOf}
 use Rattle.codec.proofs.Laws.{extent-whole, extent-none, uncut, read-cut, read-unknown, read-leftover, read-heard}
 use Rattle.codec.proofs.Numbers.{verdict-by}
-use Rattle.undamaged.specs.declared.Answer.{Answer}
-use Rattle.undamaged.specs.declared.Answer.the-variants as answer
-use Rattle.undamaged.specs.Calls.{refuse}
-use Rattle.undamaged.specs.Calls as calls
-use Rattle.undamaged.proofs.Entries.{on-sound}
+use Rattle.calls.specs.declared.Answer.{Answer}
+use Rattle.calls.specs.declared.Answer.the-variants as answer
+use Rattle.calls.specs.Calls.{refuse}
+use Rattle.calls.specs.Calls as calls
+use Rattle.calls.proofs.Entries.{on-sound}
 use Rattle.book.specs.History.{perform, BookNumber}
 use Rattle.book.proofs.Theorems.{of-this-book}
 use Rattle.service.specs.Service.{callOf, slotIn, slotTold, outcomeOf, answerTold, doneTo, outcomeNumber, Stopping}

@@ -1,11 +1,11 @@
 // One record at the front of a job, read and done to a store that is known to be undamaged, with the level table lent.
 // What comes of it is a definition of specs/Service.antt, and the store stays undamaged.
 use answer::Refusal;
+use calls::Answer;
 use codec::Request;
 use codec::Told;
 use index::Index;
 use road::Source;
-use undamaged::Answer;
 ghost use mathlib.Core.Path.{_≡_};
 ghost use mathlib.Core.Bool.{false};
 ghost use Rattle.level.specs.Table.{table};

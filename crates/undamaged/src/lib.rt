@@ -1,6 +1,7 @@
 // The calls of the book on a store that is known to be undamaged, with the level table lent: no look for damage.
 // What each answers and leaves is a definition of specs/Calls.antt; the store stays undamaged, so that the next call can follow.
 use answer::Refusal;
+use calls::Answer;
 use index::Index;
 use ledger::afresh;
 use ledger::fences;
@@ -23,14 +24,7 @@ ghost use Rattle.road.specs.Judge.{sourceVerdict, receiverVerdict, wallVerdict}
 ghost use Rattle.store.specs.Store.{sourceCount, receiverCount, wallCount, damaged, bookOf, bookBytes, book};
 ghost use Rattle.ledger.specs.Lists.{present};
 ghost use Rattle.ledger.specs.Changes.{changeBy};
-ghost use Rattle.undamaged.specs.Calls.{told, changeSource, enterSource, leaveSource, enterReceiver, leaveReceiver, changeWall, enterWall, leaveWall, indicesAt, placeSource, withdrawSource, placeReceiver, withdrawReceiver, placeWall, withdrawWall, askReceiver};
-
-// What a call answers: done, the two indices of a receiver (L_DEN, then L_Night), or a refusal.
-pub enum Answer {
-    Done,
-    Levels(Index, Index),
-    Refused(Refusal),
-}
+ghost use Rattle.calls.specs.Calls.{told, changeSource, enterSource, leaveSource, enterReceiver, leaveReceiver, changeWall, enterWall, leaveWall, indicesAt, placeSource, withdrawSource, placeReceiver, withdrawReceiver, placeWall, withdrawWall, askReceiver};
 
 // A source comes into slot i or goes from it: every receiver is asked first, and only then is anything written.
 fn change_source(steps: &[u32; 1000], store: &mut [u8], i: usize, s: Source, adding: bool) -> Answer

@@ -1,8 +1,8 @@
 -- `ask` looks for damage first, then answers as the inner call does. Assumes nothing.
 use mathlib.Core.Path.{sym, _∙_}
 use borrow.Author.Needs.{needs}
-use Rattle.undamaged.specs.Calls.{askReceiver}
-use Rattle.undamaged.proofs.Entries.{on-damaged, on-sound}
+use Rattle.calls.specs.Calls.{askReceiver}
+use Rattle.calls.proofs.Entries.{on-damaged, on-sound}
 use Rattle.book.proofs.ask.Statement.{statement}
 use Rattle.book.proofs.ask.Tie as tie
 

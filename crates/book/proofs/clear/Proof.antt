@@ -6,8 +6,8 @@ use mathlib.Core.List.{List}
 use lib.ListN.{length}
 use borrow.Author.Tests.{eq-eqb, ne-eqb}
 use Rattle.store.specs.Store.{storeLength}
-use Rattle.undamaged.specs.declared.Answer.the-variants.{Done}
-use Rattle.undamaged.specs.Calls.{clearStore}
+use Rattle.calls.specs.declared.Answer.the-variants.{Done}
+use Rattle.calls.specs.Calls.{clearStore}
 use Rattle.book.proofs.clear.Statement.{statement}
 use Rattle.book.proofs.clear.Tie as tie
 

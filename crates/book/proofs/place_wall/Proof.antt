@@ -1,8 +1,8 @@
 -- `place_wall` looks for damage first, then answers as the inner call does. Assumes nothing.
 use mathlib.Core.Path.{sym, _∙_}
 use borrow.Author.Needs.{needs}
-use Rattle.undamaged.specs.Calls.{placeWall}
-use Rattle.undamaged.proofs.Entries.{on-damaged, on-sound}
+use Rattle.calls.specs.Calls.{placeWall}
+use Rattle.calls.proofs.Entries.{on-damaged, on-sound}
 use Rattle.book.proofs.place_wall.Statement.{statement}
 use Rattle.book.proofs.place_wall.Tie as tie
 

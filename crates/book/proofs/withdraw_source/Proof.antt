@@ -1,8 +1,8 @@
 -- `withdraw_source` looks for damage first, then answers as the inner call does. Assumes nothing.
 use mathlib.Core.Path.{sym, _∙_}
 use borrow.Author.Needs.{needs}
-use Rattle.undamaged.specs.Calls.{withdrawSource}
-use Rattle.undamaged.proofs.Entries.{on-damaged, on-sound}
+use Rattle.calls.specs.Calls.{withdrawSource}
+use Rattle.calls.proofs.Entries.{on-damaged, on-sound}
 use Rattle.book.proofs.withdraw_source.Statement.{statement}
 use Rattle.book.proofs.withdraw_source.Tie as tie
 

@@ -2,9 +2,9 @@
 use mathlib.Core.Path.{sym, ap, _∙_}
 use borrow.Author.Needs.{needs}
 use Rattle.codec.specs.declared.Request.{Request}
-use Rattle.undamaged.specs.Calls.{placeSource, withdrawSource, placeReceiver, withdrawReceiver, placeWall, withdrawWall, askReceiver}
+use Rattle.calls.specs.Calls.{placeSource, withdrawSource, placeReceiver, withdrawReceiver, placeWall, withdrawWall, askReceiver}
 use Rattle.book.specs.History.{perform}
-use Rattle.undamaged.proofs.Entries.{on-sound}
+use Rattle.calls.proofs.Entries.{on-sound}
 use Rattle.service.specs.Service.{callOf}
 use Rattle.service.proofs.perform.Statement.{statement}
 use Rattle.service.proofs.perform.Tie as tie

@@ -4,10 +4,10 @@ use mathlib.Core.List.{List}
 use Prim.Native.Nat.{ℕ}
 use borrow.Author.Needs.{needs}
 use Rattle.codec.specs.declared.Reading.{Reading}
-use Rattle.undamaged.specs.declared.Answer.{Answer}
+use Rattle.calls.specs.declared.Answer.{Answer}
 use Rattle.codec.specs.declared.Told.the-variants as told
 use Rattle.codec.specs.Record.{readOf}
-use Rattle.undamaged.specs.declared.Answer.the-variants as answer
+use Rattle.calls.specs.declared.Answer.the-variants as answer
 use Rattle.service.specs.Service.{outcomeOf, deed}
 use Rattle.service.proofs.Laws.{called, called-sound, unread}
 use Rattle.service.proofs.serve.Statement.{statement}

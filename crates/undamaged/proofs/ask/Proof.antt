@@ -6,7 +6,7 @@ use borrow.Author.Needs.{needs}
 use Rattle.road.specs.declared.Verdict.{Verdict}
 use Rattle.road.specs.declared.Verdict.the-variants.{Allowed}
 use Rattle.store.specs.Store.{lastReceiver, bookOf}
-use Rattle.undamaged.specs.Calls.{told, allow, indicesAt, askReceiver}
+use Rattle.calls.specs.Calls.{told, allow, indicesAt, askReceiver}
 use Rattle.road.proofs.Judged.{slot-allowed}
 use Rattle.undamaged.proofs.ask.Statement.{statement}
 use Rattle.undamaged.proofs.ask.Tie as tie

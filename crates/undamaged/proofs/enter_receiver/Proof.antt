@@ -16,10 +16,10 @@ use Rattle.store.specs.declared.Account.{Account}
 use Rattle.store.specs.declared.Held.{Held}
 use Rattle.store.specs.Store.{book, bookOf, bookBytes}
 use Rattle.store.proofs.Laws.{undamaged, set-held}
-use Rattle.undamaged.specs.declared.Answer.{Answer}
-use Rattle.undamaged.specs.declared.Answer.the-variants.{Done}
+use Rattle.calls.specs.declared.Answer.{Answer}
+use Rattle.calls.specs.declared.Answer.the-variants.{Done}
 use Rattle.ledger.specs.Lists.{firstBar, present, weigh}
-use Rattle.undamaged.specs.Calls.{change, told, intoFree, unlessBarred, pairIn}
+use Rattle.calls.specs.Calls.{change, told, intoFree, unlessBarred, pairIn}
 use Rattle.ledger.proofs.Entries.{seat-free, seat-used, stop-some, stop-none}
 use Rattle.undamaged.proofs.enter_receiver.Statement.{statement}
 use Rattle.undamaged.proofs.enter_receiver.Tie as tie

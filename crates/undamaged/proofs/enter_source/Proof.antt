@@ -9,8 +9,8 @@ use Rattle.store.specs.Store.{bookOf}
 use Rattle.store.proofs.Laws.{undamaged}
 use Rattle.ledger.specs.Changes.{coming}
 use Rattle.ledger.proofs.Entries.{source-slot-free, source-slot-used}
-use Rattle.undamaged.specs.declared.Answer.{Answer}
-use Rattle.undamaged.specs.Calls.{told, intoFree, pairIn, changeSource}
+use Rattle.calls.specs.declared.Answer.{Answer}
+use Rattle.calls.specs.Calls.{told, intoFree, pairIn, changeSource}
 use Rattle.undamaged.proofs.enter_source.Statement.{statement}
 use Rattle.undamaged.proofs.enter_source.Tie as tie
 

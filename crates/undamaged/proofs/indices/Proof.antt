@@ -8,8 +8,8 @@ use borrow.Author.Tests.{leb-true}
 use Rattle.store.specs.declared.Held.{Held}
 use Rattle.level.specs.Level.{top}
 use Rattle.store.proofs.Laws.{undamaged}
-use Rattle.undamaged.specs.declared.Answer.the-variants.{Levels}
-use Rattle.undamaged.specs.Calls.{Step, tell, told, fromUsed}
+use Rattle.calls.specs.declared.Answer.the-variants.{Levels}
+use Rattle.calls.specs.Calls.{Step, tell, told, fromUsed}
 use Rattle.index.specs.Index.{ldenOf, lnightOf}
 use Rattle.ledger.proofs.Entries.{seat-free, seat-used, seat-stands}
 use Rattle.ledger.proofs.Rounds.{and-both}

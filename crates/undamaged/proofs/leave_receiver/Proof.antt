@@ -9,9 +9,9 @@ use lib.ListN.{set}
 use Rattle.store.specs.declared.Held.{Held}
 use Rattle.store.specs.Store.{book, bookOf}
 use Rattle.store.proofs.Laws.{undamaged, set-held}
-use Rattle.undamaged.specs.declared.Answer.{Answer}
-use Rattle.undamaged.specs.declared.Answer.the-variants.{Done}
-use Rattle.undamaged.specs.Calls.{change, told, fromUsed}
+use Rattle.calls.specs.declared.Answer.{Answer}
+use Rattle.calls.specs.declared.Answer.the-variants.{Done}
+use Rattle.calls.specs.Calls.{change, told, fromUsed}
 use Rattle.ledger.proofs.Entries.{seat-free, seat-used}
 use Rattle.undamaged.proofs.leave_receiver.Statement.{statement}
 use Rattle.undamaged.proofs.leave_receiver.Tie as tie

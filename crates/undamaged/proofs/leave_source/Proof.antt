@@ -10,8 +10,8 @@ use Rattle.store.specs.Store.{bookOf}
 use Rattle.store.proofs.Laws.{undamaged}
 use Rattle.ledger.specs.Changes.{going}
 use Rattle.ledger.proofs.Entries.{source-slot-free, source-slot-used, source-slot-stands}
-use Rattle.undamaged.specs.declared.Answer.{Answer}
-use Rattle.undamaged.specs.Calls.{told, fromUsed, pairIn, changeSource}
+use Rattle.calls.specs.declared.Answer.{Answer}
+use Rattle.calls.specs.Calls.{told, fromUsed, pairIn, changeSource}
 use Rattle.undamaged.proofs.leave_source.Statement.{statement}
 use Rattle.undamaged.proofs.leave_source.Tie as tie
 

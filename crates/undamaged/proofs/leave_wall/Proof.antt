@@ -10,8 +10,8 @@ use Rattle.screen.specs.declared.Wall.{Wall}
 use Rattle.store.specs.Store.{bookOf}
 use Rattle.store.proofs.Laws.{undamaged}
 use Rattle.ledger.proofs.Entries.{wall-slot-free, wall-slot-used}
-use Rattle.undamaged.specs.declared.Answer.{Answer}
-use Rattle.undamaged.specs.Calls.{told, fromUsed, changeWall}
+use Rattle.calls.specs.declared.Answer.{Answer}
+use Rattle.calls.specs.Calls.{told, fromUsed, changeWall}
 use Rattle.undamaged.proofs.leave_wall.Statement.{statement}
 use Rattle.undamaged.proofs.leave_wall.Tie as tie
 

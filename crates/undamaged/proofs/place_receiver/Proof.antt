@@ -6,9 +6,9 @@ use borrow.Author.Needs.{needs}
 use Rattle.road.specs.declared.Verdict.{Verdict}
 use Rattle.road.specs.Judge.{slotVerdict}
 use Rattle.store.specs.Store.{lastReceiver, bookOf}
-use Rattle.undamaged.specs.Calls.{told, allow, enterReceiver, placeReceiver}
+use Rattle.calls.specs.Calls.{told, allow, enterReceiver, placeReceiver}
 use Rattle.road.proofs.Judged.{slot-allowed}
-use Rattle.undamaged.proofs.Keeps.{receiver-in-kept}
+use Rattle.calls.proofs.Keeps.{receiver-in-kept}
 use Rattle.undamaged.proofs.place_receiver.Statement.{statement}
 use Rattle.undamaged.proofs.place_receiver.Tie as tie
 

@@ -6,10 +6,10 @@ use borrow.Author.Needs.{needs}
 use Rattle.road.specs.declared.Verdict.{Verdict}
 use Rattle.road.specs.Judge.{slotVerdict}
 use Rattle.store.specs.Store.{lastSource, bookOf}
-use Rattle.undamaged.specs.Calls.{told, allow, enterSource, placeSource}
+use Rattle.calls.specs.Calls.{told, allow, enterSource, placeSource}
 use Rattle.road.proofs.Judged.{slot-allowed}
 use Rattle.road.proofs.Periods.{owned-periods}
-use Rattle.undamaged.proofs.Keeps.{source-in-kept}
+use Rattle.calls.proofs.Keeps.{source-in-kept}
 use Rattle.undamaged.proofs.place_source.Statement.{statement}
 use Rattle.undamaged.proofs.place_source.Tie as tie
 

@@ -6,9 +6,9 @@ use borrow.Author.Needs.{needs}
 use Rattle.road.specs.declared.Verdict.{Verdict}
 use Rattle.road.specs.Judge.{slotVerdict}
 use Rattle.store.specs.Store.{lastWall, bookOf}
-use Rattle.undamaged.specs.Calls.{told, allow, enterWall, placeWall}
+use Rattle.calls.specs.Calls.{told, allow, enterWall, placeWall}
 use Rattle.road.proofs.Judged.{slot-allowed}
-use Rattle.undamaged.proofs.Keeps.{wall-in-kept}
+use Rattle.calls.proofs.Keeps.{wall-in-kept}
 use Rattle.undamaged.proofs.place_wall.Statement.{statement}
 use Rattle.undamaged.proofs.place_wall.Tie as tie
 

@@ -6,9 +6,9 @@ use borrow.Author.Needs.{needs}
 use Rattle.road.specs.declared.Verdict.{Verdict}
 use Rattle.road.specs.declared.Verdict.the-variants.{Allowed}
 use Rattle.store.specs.Store.{lastReceiver, bookOf}
-use Rattle.undamaged.specs.Calls.{told, allow, leaveReceiver, withdrawReceiver}
+use Rattle.calls.specs.Calls.{told, allow, leaveReceiver, withdrawReceiver}
 use Rattle.road.proofs.Judged.{slot-allowed}
-use Rattle.undamaged.proofs.Keeps.{receiver-out-kept}
+use Rattle.calls.proofs.Keeps.{receiver-out-kept}
 use Rattle.undamaged.proofs.withdraw_receiver.Statement.{statement}
 use Rattle.undamaged.proofs.withdraw_receiver.Tie as tie
 

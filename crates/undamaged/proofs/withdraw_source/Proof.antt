@@ -6,9 +6,9 @@ use borrow.Author.Needs.{needs}
 use Rattle.road.specs.declared.Verdict.{Verdict}
 use Rattle.road.specs.declared.Verdict.the-variants.{Allowed}
 use Rattle.store.specs.Store.{lastSource, bookOf}
-use Rattle.undamaged.specs.Calls.{told, allow, leaveSource, withdrawSource}
+use Rattle.calls.specs.Calls.{told, allow, leaveSource, withdrawSource}
 use Rattle.road.proofs.Judged.{slot-allowed}
-use Rattle.undamaged.proofs.Keeps.{source-out-kept}
+use Rattle.calls.proofs.Keeps.{source-out-kept}
 use Rattle.undamaged.proofs.withdraw_source.Statement.{statement}
 use Rattle.undamaged.proofs.withdraw_source.Tie as tie
 

@@ -6,9 +6,9 @@ use borrow.Author.Needs.{needs}
 use Rattle.road.specs.declared.Verdict.{Verdict}
 use Rattle.road.specs.declared.Verdict.the-variants.{Allowed}
 use Rattle.store.specs.Store.{lastWall, bookOf}
-use Rattle.undamaged.specs.Calls.{told, allow, leaveWall, withdrawWall}
+use Rattle.calls.specs.Calls.{told, allow, leaveWall, withdrawWall}
 use Rattle.road.proofs.Judged.{slot-allowed}
-use Rattle.undamaged.proofs.Keeps.{wall-out-kept}
+use Rattle.calls.proofs.Keeps.{wall-out-kept}
 use Rattle.undamaged.proofs.withdraw_wall.Statement.{statement}
 use Rattle.undamaged.proofs.withdraw_wall.Tie as tie
 

@@ -23,8 +23,8 @@ use Rattle.store.specs.declared.Held.{Held}
 use Rattle.store.specs.Store.{lastSource, lastReceiver, lastWall, Book, book, damaged, bookOf, bookBytes, storeLength, clearedBytes}
 use Rattle.ledger.specs.Lists.{omap, present, every, firstBar, weigh}
 use Rattle.ledger.specs.Changes.{Change, follow, barOf, coming, going, renewing}
-use Rattle.undamaged.specs.declared.Answer.{Answer}
-use Rattle.undamaged.specs.declared.Answer.the-variants.{Done, Levels, Refused}
+use Rattle.calls.specs.declared.Answer.{Answer}
+use Rattle.calls.specs.declared.Answer.the-variants.{Done, Levels, Refused}
 
 -- ---- slots: lists of them, the first bar and an account worked out afresh are in the ledger's specs/Lists.antt, changes in its Changes.antt
 

@@ -19,15 +19,15 @@ use Rattle.store.specs.declared.Held.{Held}
 use Rattle.store.specs.Slots.{Each}
 use Rattle.store.specs.Store.{lastSource, lastReceiver, lastWall, Book, book, damaged, bookOf, SourceStands, HeldStands, WallStands, SoundBook}
 use Rattle.store.proofs.Laws.{many-sources, sound-book, book-bytes, sound-source, sound-held, sound-wall}
-use Rattle.undamaged.specs.declared.Answer.{Answer}
+use Rattle.calls.specs.declared.Answer.{Answer}
 use Rattle.ledger.specs.Lists.{omap, present, every, firstBar, weigh}
 use Rattle.ledger.specs.Changes.{Change, follow, barOf, coming, going, renewing}
-use Rattle.undamaged.specs.Calls.{Step, refuse, tell, change, allow, intoFree, fromUsed, unlessBarred, unlessLate}
-use Rattle.undamaged.specs.Calls.{pairIn, followed, changeSource, placeSource, withdrawSource, placeReceiver, withdrawReceiver, changeWall, placeWall, withdrawWall, askReceiver, told}
+use Rattle.calls.specs.Calls.{Step, refuse, tell, change, allow, intoFree, fromUsed, unlessBarred, unlessLate}
+use Rattle.calls.specs.Calls.{pairIn, followed, changeSource, placeSource, withdrawSource, placeReceiver, withdrawReceiver, changeWall, placeWall, withdrawWall, askReceiver, told}
 use Rattle.road.proofs.Judged.{slot-allowed}
 use Rattle.ledger.proofs.Rounds.{and-both}
-use Rattle.undamaged.proofs.Rounded.{KeepsSound, coming-sound, going-sound, renewing-sound}
-use Rattle.undamaged.proofs.Sums.{never, weigh-sound}
+use Rattle.calls.proofs.Rounded.{KeepsSound, coming-sound, going-sound, renewing-sound}
+use Rattle.calls.proofs.Sums.{never, weigh-sound}
 
 -- ---- a book that a store can hold, or no change
 

@@ -6,7 +6,7 @@ use mathlib.Core.Bool.{Bool, false}
 use mathlib.Core.Option.{Option, none, some}
 use lib.ListN.{getD, set}
 use Rattle.answer.specs.declared.Refusal.{Refusal}
-use Rattle.answer.specs.declared.Refusal.the-variants.{Damaged, Taken}
+use Rattle.answer.specs.declared.Refusal.the-variants.{Damaged, Taken, Vacant}
 use Rattle.screen.specs.declared.Wall.{Wall}
 use Rattle.road.specs.declared.Source.{Source}
 use Rattle.road.specs.declared.Receiver.{Receiver}
@@ -17,8 +17,9 @@ use Rattle.store.specs.declared.Held.{Held}
 use Rattle.store.specs.Store.{Book}
 use Rattle.ledger.specs.Lists.{present, every, firstBar}
 use Rattle.ledger.specs.Changes.{barOf, coming, renewing}
-use Rattle.undamaged.specs.Calls.{Step, allow, intoFree, unlessBarred, unlessLate, refuse, pairIn, placeSource, placeReceiver, placeWall}
-use Rattle.undamaged.specs.Order.{sourceJudged, receiverJudged, wallJudged, InOrder}
+use Rattle.calls.specs.Calls.{Step, allow, intoFree, fromUsed, unlessBarred, unlessLate, refuse, pairIn, placeSource, placeReceiver, placeWall}
+use Rattle.calls.specs.Calls.{withdrawSource, withdrawReceiver, withdrawWall, askReceiver}
+use Rattle.calls.specs.Order.{sourceJudged, receiverJudged, wallJudged, VacantOrder, InOrder}
 
 -- ---- each gate, whatever stands behind it
 
@@ -35,6 +36,9 @@ module _ {A : Type 0} (v : Verdict) (o : Option A) where
   by-late : (w : Option Refusal) (t : Bool) (k : Step) → v ≡ Allowed → o ≡ none → w ≡ none → t ≡ false
       → allow v (intoFree o (unlessBarred w (unlessLate t k))) ≡ refuse Damaged
   by-late w t k e f g h = rw (e, f, g, h)
+
+  by-vacant : (k : A → Step) → v ≡ Allowed → o ≡ none → allow v (fromUsed o k) ≡ refuse Vacant
+  by-vacant k e f = rw (e, f)
 
 -- ---- the calls that place
 
@@ -85,6 +89,12 @@ module _ (k : ℕ) (w : Wall) (b : Book) where
   unfolding placeWall
   wall-barred = by-barred _ _ _ _
 
+-- ---- the calls on a slot that has to be used
+
+vacant-order : (i : ℕ) (b : Book) → VacantOrder i b
+unfolding withdrawSource withdrawReceiver withdrawWall askReceiver
+vacant-order i b = record { source = by-vacant _ _ _; receiver = by-vacant _ _ _; wall = by-vacant _ _ _; ask = by-vacant _ _ _ }
+
 pub in-order : InOrder
 in-order = record {
   source = λ i s b.
@@ -97,4 +107,5 @@ in-order = record {
   receiver = λ j r b.
       record { fields-first = receiver-fields j r b; then-taken = receiver-taken j r b; then-barred = receiver-barred j r b };
   wall = λ k w b. record { fields-first = wall-fields k w b; then-taken = wall-taken k w b; then-barred = wall-barred k w b };
+  vacant = vacant-order;
 }

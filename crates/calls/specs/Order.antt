@@ -6,7 +6,7 @@ use mathlib.Core.Bool.{false}
 use mathlib.Core.Option.{none, some}
 use lib.ListN.{getD, set}
 use Rattle.answer.specs.declared.Refusal.{Refusal}
-use Rattle.answer.specs.declared.Refusal.the-variants.{Damaged, Taken}
+use Rattle.answer.specs.declared.Refusal.the-variants.{Damaged, Taken, Vacant}
 use Rattle.screen.specs.declared.Wall.{Wall}
 use Rattle.road.specs.declared.Source.{Source}
 use Rattle.road.specs.declared.Receiver.{Receiver}
@@ -18,7 +18,7 @@ use Rattle.store.specs.declared.Held.{Held}
 use Rattle.store.specs.Store.{lastSource, lastReceiver, lastWall, Book}
 use Rattle.ledger.specs.Lists.{present, every, firstBar}
 use Rattle.ledger.specs.Changes.{barOf, coming, renewing}
-use Rattle.undamaged.specs.Calls.{refuse, pairIn, placeSource, placeReceiver, placeWall}
+use Rattle.calls.specs.Calls.{refuse, pairIn, placeSource, placeReceiver, placeWall, withdrawSource, withdrawReceiver, withdrawWall, askReceiver}
 
 -- the verdict on slot and fields, and the first pair that is barred
 abbrev pub sourceJudged : ℕ → Source → Verdict
@@ -61,7 +61,15 @@ pub record WallOrder (k : ℕ) (w : Wall) (b : Book) : Type 0 where
   pub then-barred : (why : Refusal) → wallJudged k w ≡ Allowed → getD (b .walls) k none ≡ none
       → barOf (renewing (pairOf (present (set (b .walls) k (some w)))) (present (b .sources))) (b .receivers) ≡ some why → placeWall k w b ≡ refuse why
 
+-- 9, of a slot that is allowed
+pub record VacantOrder (i : ℕ) (b : Book) : Type 0 where
+  pub source : slotVerdict lastSource i Allowed ≡ Allowed → getD (b .sources) i none ≡ none → withdrawSource i b ≡ refuse Vacant
+  pub receiver : slotVerdict lastReceiver i Allowed ≡ Allowed → getD (b .receivers) i none ≡ none → withdrawReceiver i b ≡ refuse Vacant
+  pub wall : slotVerdict lastWall i Allowed ≡ Allowed → getD (b .walls) i none ≡ none → withdrawWall i b ≡ refuse Vacant
+  pub ask : slotVerdict lastReceiver i Allowed ≡ Allowed → getD (b .receivers) i none ≡ none → askReceiver i b ≡ refuse Vacant
+
 pub record InOrder : Type 0 where
   pub source : (i : ℕ) (s : Source) (b : Book) → SourceOrder i s b
   pub receiver : (j : ℕ) (r : Receiver) (b : Book) → ReceiverOrder j r b
   pub wall : (k : ℕ) (w : Wall) (b : Book) → WallOrder k w b
+  pub vacant : (i : ℕ) (b : Book) → VacantOrder i b

@@ -31,10 +31,10 @@ use Rattle.ledger.specs.Changes.{Change, follow, barOf, coming, going, renewing
 use Rattle.ledger.specs.Ledger.{vacant, toSeat, Rounded, seated, StandingSeats}
 use Rattle.ledger.proofs.Entries.{stop-none, stop-some}
 use Rattle.ledger.proofs.Rounds.{false-true, and-both, seated-map}
-use Rattle.undamaged.specs.declared.Answer.{Answer}
-use Rattle.undamaged.specs.declared.Answer.the-variants.{Done, Refused}
-use Rattle.undamaged.specs.Calls.{change, told, unlessBarred, unlessLate, followed}
-use Rattle.undamaged.proofs.Sums.{weigh-sound}
+use Rattle.calls.specs.declared.Answer.{Answer}
+use Rattle.calls.specs.declared.Answer.the-variants.{Done, Refused}
+use Rattle.calls.specs.Calls.{change, told, unlessBarred, unlessLate, followed}
+use Rattle.calls.proofs.Sums.{weigh-sound}
 
 -- ---- the seats of a round may be in the book
 

@@ -6,8 +6,8 @@ use mathlib.Core.List.{List}
 use Prim.Native.Nat.{ℕ}
 use Rattle.answer.specs.declared.Refusal.the-variants.{Damaged}
 use Rattle.store.specs.Store.{Book, damaged, bookOf}
-use Rattle.undamaged.specs.declared.Answer.the-variants.{Refused}
-use Rattle.undamaged.specs.Calls.{Step, told, onStore}
+use Rattle.calls.specs.declared.Answer.the-variants.{Refused}
+use Rattle.calls.specs.Calls.{Step, told, onStore}
 
 module _ (f : Book → Step) (s : List ℕ) where
   pub on-damaged : damaged s ≡ true → (Refused Damaged, s) ≡ onStore f s
