@@ -20,9 +20,9 @@ use Rattle.store.specs.Store.{Book, damaged}
 use Rattle.calls.specs.declared.Answer.{Answer}
 use Rattle.calls.specs.declared.Answer.the-variants as answer
 use Rattle.calls.specs.Calls.{refuse, placeSource, withdrawSource, placeReceiver, withdrawReceiver, placeWall, withdrawWall, askReceiver}
-use Rattle.book.specs.History.{RealCall, perform}
+use Rattle.history.specs.History.{RealCall, perform}
 use Rattle.calls.proofs.Entries.{on-damaged, on-sound}
-use Rattle.book.proofs.Theorems.{of-this-book}
+use Rattle.history.proofs.Theorems.{of-this-book}
 use Rattle.service.specs.declared.Outcome.{Outcome}
 use Rattle.service.specs.declared.Deed.{Deed}
 use Rattle.service.specs.Service.{callOf, slotIn, outcomeOf, answerTold, deed, doneTo}

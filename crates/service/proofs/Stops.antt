@@ -30,8 +30,8 @@ use Rattle.calls.specs.declared.Answer.the-variants as answer
 use Rattle.calls.specs.Calls.{refuse}
 use Rattle.calls.specs.Calls as calls
 use Rattle.calls.proofs.Entries.{on-sound}
-use Rattle.book.specs.History.{perform, BookNumber}
-use Rattle.book.proofs.Theorems.{of-this-book}
+use Rattle.history.specs.History.{perform, BookNumber}
+use Rattle.history.proofs.Theorems.{of-this-book}
 use Rattle.service.specs.Service.{callOf, slotIn, slotTold, outcomeOf, answerTold, doneTo, outcomeNumber, Stopping}
 use Rattle.service.proofs.Laws.{goes-by}
 

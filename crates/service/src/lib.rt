@@ -10,7 +10,7 @@ ghost use mathlib.Core.Path.{_≡_};
 ghost use mathlib.Core.Bool.{false};
 ghost use Rattle.level.specs.Table.{table};
 ghost use Rattle.store.specs.Store.{damaged};
-ghost use Rattle.book.specs.History.{perform};
+ghost use Rattle.history.specs.History.{perform};
 ghost use Rattle.service.specs.Service.{callOf, slotIn, outcomeOf, doneTo};
 
 // What comes of a record: done, the two indices of the receiver in a slot (L_DEN, then L_Night), or a refusal.

@@ -3,7 +3,7 @@ use mathlib.Core.Path.{sym, ap, _∙_}
 use borrow.Author.Needs.{needs}
 use Rattle.codec.specs.declared.Request.{Request}
 use Rattle.calls.specs.Calls.{placeSource, withdrawSource, placeReceiver, withdrawReceiver, placeWall, withdrawWall, askReceiver}
-use Rattle.book.specs.History.{perform}
+use Rattle.history.specs.History.{perform}
 use Rattle.calls.proofs.Entries.{on-sound}
 use Rattle.service.specs.Service.{callOf}
 use Rattle.service.proofs.perform.Statement.{statement}

@@ -18,17 +18,17 @@ use Rattle.road.specs.Pairs.{Pairing, isHeard}
 use Rattle.road.proofs.Pairs.{of-pairs}
 use Rattle.ledger.specs.Lists.{present, weigh, All}
 use Rattle.calls.proofs.Sums.{HearsAll, all-map, never}
-use Rattle.book.specs.History.{Call, answerTo, Real, accepted, kept, sourceMove, receiverMove, wallMove, lastAt, inSlots, standingSource}
-use Rattle.book.specs.History.{standingReceiver, standingWall, standingSources, standingReceivers, standingWalls, levelsOf, SumsOf, Hears, AllHear}
-use Rattle.book.specs.History.{Put, Placing, source, receiver, wall, asCall, calls, sourcesIn, receiversIn, wallsIn, WallsFirst, entriesOf, Apart}
-use Rattle.book.specs.History.{Rule, Rebuilds, AllAccepted, Rebuilt, inPlace, anew}
-use Rattle.book.proofs.Slots.{all-perm, in-slots-length, entering, entering-free, entering-perm, entering-at, in-place-entries}
-use Rattle.book.proofs.Slots.{in-place-apart}
-use Rattle.book.proofs.Accounts.{weigh-perm}
-use Rattle.book.proofs.Filled.{ReceiverStands}
-use Rattle.book.proofs.Laws.{StoreLaws}
-use Rattle.book.proofs.History.{sourcesAfter, receiversAfter, wallsAfter, standing-sources, standing-receivers, standing-walls, holds}
-use Rattle.book.proofs.History.{accepts-by-rule, holds-what-stands}
+use Rattle.history.specs.History.{Call, answerTo, Real, accepted, kept, sourceMove, receiverMove, wallMove, lastAt, inSlots, standingSource}
+use Rattle.history.specs.History.{standingReceiver, standingWall, standingSources, standingReceivers, standingWalls, levelsOf, SumsOf, Hears, AllHear}
+use Rattle.history.specs.History.{Put, Placing, source, receiver, wall, asCall, calls, sourcesIn, receiversIn, wallsIn, WallsFirst, entriesOf, Apart}
+use Rattle.history.specs.History.{Rule, Rebuilds, AllAccepted, Rebuilt, inPlace, anew}
+use Rattle.history.proofs.Slots.{all-perm, in-slots-length, entering, entering-free, entering-perm, entering-at, in-place-entries}
+use Rattle.history.proofs.Slots.{in-place-apart}
+use Rattle.history.proofs.Accounts.{weigh-perm}
+use Rattle.history.proofs.Filled.{ReceiverStands}
+use Rattle.history.proofs.Laws.{StoreLaws}
+use Rattle.history.proofs.History.{sourcesAfter, receiversAfter, wallsAfter, standing-sources, standing-receivers, standing-walls, holds}
+use Rattle.history.proofs.History.{accepts-by-rule, holds-what-stands}
 
 -- ---- placings as moves
 

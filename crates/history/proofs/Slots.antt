@@ -16,7 +16,7 @@ use borrow.Author.Tests.{eqb-true, eqb-false, eq-eqb, ne-eqb}
 use Rattle.ledger.specs.Lists.{omap, present, every, sumOf, All}
 use Rattle.calls.specs.Calls.{used}
 use Rattle.calls.proofs.Sums.{and-both, never}
-use Rattle.book.specs.History.{Move, enter, leave, allLeave, still, lastAt, inSlots, Put, entriesOf, Apart, inPlace}
+use Rattle.history.specs.History.{Move, enter, leave, allLeave, still, lastAt, inSlots, Put, entriesOf, Apart, inPlace}
 
 -- ---- what holds of each
 

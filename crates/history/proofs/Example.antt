@@ -25,15 +25,15 @@ use Rattle.calls.specs.declared.Answer.the-variants.{Levels, Refused}
 use Rattle.ledger.specs.Lists.{present}
 use Rattle.calls.specs.Calls.{told, placeSource}
 use Rattle.store.proofs.Laws.{many-sources}
-use Rattle.book.specs.History.{standingReceivers, Placing, source, receiver, calls, Rebuilds, Call, PlaceSource, WithdrawSource, PlaceReceiver}
-use Rattle.book.specs.History.{Ask, storeAfter, bookAfter, answerTo, Real, accepted, kept, lastAt, inSlots, standingSource, standingReceiver}
-use Rattle.book.specs.History.{standingSources, standingWall, standingWalls, levelsOf, Hears, Rule}
+use Rattle.history.specs.History.{standingReceivers, Placing, source, receiver, calls, Rebuilds, Call, PlaceSource, WithdrawSource, PlaceReceiver}
+use Rattle.history.specs.History.{Ask, storeAfter, bookAfter, answerTo, Real, accepted, kept, lastAt, inSlots, standingSource, standingReceiver}
+use Rattle.history.specs.History.{standingSources, standingWall, standingWalls, levelsOf, Hears, Rule}
 use Rattle.calls.proofs.Answered.{by-taken}
-use Rattle.book.proofs.Slots.{in-slots-at}
-use Rattle.book.proofs.Gates.{slot-passes}
-use Rattle.book.proofs.Laws.{StoreLaws, store-laws}
-use Rattle.book.proofs.History.{wallAfter, sourceAfter, seatAfter, on-store, accepts-by-rule, holds-what-stands}
-use Rattle.book.proofs.Rebuild.{keeps, rebuilt}
+use Rattle.history.proofs.Slots.{in-slots-at}
+use Rattle.history.proofs.Gates.{slot-passes}
+use Rattle.history.proofs.Laws.{StoreLaws, store-laws}
+use Rattle.history.proofs.History.{wallAfter, sourceAfter, seatAfter, on-store, accepts-by-rule, holds-what-stands}
+use Rattle.history.proofs.Rebuild.{keeps, rebuilt}
 
 -- ---- the two roads, and what the first brings to the point
 

@@ -14,7 +14,7 @@ use Rattle.store.specs.Account.{covers}
 use Rattle.ledger.specs.Lists.{sumOf, weigh}
 use Rattle.ledger.specs.Changes.{follow, coming, going}
 use Rattle.calls.proofs.Sums.{and-both}
-use Rattle.book.proofs.Slots.{perm-sum}
+use Rattle.history.proofs.Slots.{perm-sum}
 
 module _ (pair : Pairing) where
   module _ (s : Source) (ss : List Source) (r : Receiver) where

@@ -28,9 +28,9 @@ use Rattle.calls.specs.declared.Answer.the-variants.{Done, Refused}
 use Rattle.calls.specs.Calls.{numberIn, Step, refuse, tell, change, allow, intoFree, fromUsed, unlessBarred, unlessLate, pairIn}
 use Rattle.calls.specs.Calls.{placeSource, withdrawSource, placeReceiver, withdrawReceiver, placeWall, withdrawWall, askReceiver, told, onStore}
 use Rattle.calls.specs.Calls.{clearStore}
-use Rattle.book.specs.History.{Call, Clear, PlaceSource, WithdrawSource, PlaceReceiver, WithdrawReceiver, PlaceWall, WithdrawWall, Ask, perform}
-use Rattle.book.specs.History.{BookNumber}
-use Rattle.book.proofs.Gates.{ByPair, bars-by}
+use Rattle.history.specs.History.{Call, Clear, PlaceSource, WithdrawSource, PlaceReceiver, WithdrawReceiver, PlaceWall, WithdrawWall, Ask, perform}
+use Rattle.history.specs.History.{BookNumber}
+use Rattle.history.proofs.Gates.{ByPair, bars-by}
 
 -- ---- gate after gate
 

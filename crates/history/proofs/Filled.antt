@@ -28,13 +28,13 @@ use Rattle.calls.specs.Calls.{used, Step, tell, allow, fromUsed}
 use Rattle.calls.specs.Calls.{placeSource, withdrawSource, placeReceiver, withdrawReceiver, changeWall, placeWall, withdrawWall, askReceiver}
 use Rattle.road.proofs.Judged.{source-by, receiver-by, wall-by}
 use Rattle.calls.proofs.Sums.{HearsAll, all-map, and-both, bars-pass, never, weigh-sound}
-use Rattle.book.specs.History.{Call, PlaceSource, WithdrawSource, PlaceReceiver, WithdrawReceiver, PlaceWall, WithdrawWall, Ask}
-use Rattle.book.specs.History.{RealCall, accepted, sourceMove, receiverMove, wallMove, inSlots, levelsOf, Hears, AllHear, Rule}
-use Rattle.book.proofs.Slots.{all-both, all-set, all-at, every-all, every-omap, omap-set, omap-twice, omap-unused}
-use Rattle.book.proofs.Slots.{used-omap, perm-put, perm-take, in-slots-length, in-slots-at, moved}
-use Rattle.book.proofs.Accounts.{more-is, less-is, covers-is, weigh-perm}
-use Rattle.book.proofs.Gates.{Fine, past-free, past-used, past-bars, past-late, bars-none, bars-apart, bars-omap}
-use Rattle.book.proofs.Gates.{each-together, together-each, slot-passes, past-fields}
+use Rattle.history.specs.History.{Call, PlaceSource, WithdrawSource, PlaceReceiver, WithdrawReceiver, PlaceWall, WithdrawWall, Ask}
+use Rattle.history.specs.History.{RealCall, accepted, sourceMove, receiverMove, wallMove, inSlots, levelsOf, Hears, AllHear, Rule}
+use Rattle.history.proofs.Slots.{all-both, all-set, all-at, every-all, every-omap, omap-set, omap-twice, omap-unused}
+use Rattle.history.proofs.Slots.{used-omap, perm-put, perm-take, in-slots-length, in-slots-at, moved}
+use Rattle.history.proofs.Accounts.{more-is, less-is, covers-is, weigh-perm}
+use Rattle.history.proofs.Gates.{Fine, past-free, past-used, past-bars, past-late, bars-none, bars-apart, bars-omap}
+use Rattle.history.proofs.Gates.{each-together, together-each, slot-passes, past-fields}
 
 all-here : {A : Type 0} (P : A → Type 0) → ((a : A) → P a) → (l : List A) → All P l
 all-here P f [] = tt

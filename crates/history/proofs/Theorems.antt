@@ -1,11 +1,11 @@
 -- The theorems of specs/History.antt, all together.
 -- `theorems` takes the laws of a store; `of-this-book` are the theorems of this project's store, with nothing assumed.
-use Rattle.book.specs.History.{Theorems}
-use Rattle.book.proofs.Laws.{StoreLaws, store-laws}
-use Rattle.book.proofs.History.{calls-agree, accepted-number, refused-leaves, clear-forgets, never-late, accepts-by-rule, holds-what-stands}
-use Rattle.book.proofs.Keeps.{stays-sound}
-use Rattle.book.proofs.Numbers.{numbers}
-use Rattle.book.proofs.Rebuild.{rebuilt, anew-rebuilds}
+use Rattle.history.specs.History.{Theorems}
+use Rattle.history.proofs.Laws.{StoreLaws, store-laws}
+use Rattle.history.proofs.History.{calls-agree, accepted-number, refused-leaves, clear-forgets, never-late, accepts-by-rule, holds-what-stands}
+use Rattle.history.proofs.Keeps.{stays-sound}
+use Rattle.history.proofs.Numbers.{numbers}
+use Rattle.history.proofs.Rebuild.{rebuilt, anew-rebuilds}
 
 pub theorems : StoreLaws → Theorems
 theorems laws = record {

@@ -26,13 +26,13 @@ use Rattle.ledger.specs.Lists.{omap, present, weigh}
 use Rattle.calls.specs.Calls.{numberIn, Step, refuse, tell, change, told, onStore, clearStore, placeSource, withdrawSource}
 use Rattle.calls.specs.Calls.{placeReceiver, withdrawReceiver, placeWall, withdrawWall, askReceiver}
 use Rattle.calls.proofs.Sums.{HearsAll, never}
-use Rattle.book.specs.History.{Call, Clear, PlaceSource, WithdrawSource, PlaceReceiver, WithdrawReceiver, PlaceWall, WithdrawWall, Ask, perform}
-use Rattle.book.specs.History.{storeAfter, RealCall, answerTo, Real, accepted, kept, sourceMove, receiverMove, wallMove, allLeave, lastAt, inSlots}
-use Rattle.book.specs.History.{standingSource, standingReceiver, standingWall, standingSources, standingReceivers, standingWalls, SumsOf, HoldsWhatStands, NeverLate, Rule, AcceptsByRule}
-use Rattle.book.proofs.Slots.{all-none, omap-none, slots-moved, slots-none}
-use Rattle.book.proofs.Filled.{fill, ReceiverStands, Standing, fill-at, standing-sound, Next, Leads, place-source, withdraw-source}
-use Rattle.book.proofs.Filled.{place-receiver, withdraw-receiver, place-wall, withdraw-wall, ask-receiver, ask-tells}
-use Rattle.book.proofs.Laws.{StoreLaws}
+use Rattle.history.specs.History.{Call, Clear, PlaceSource, WithdrawSource, PlaceReceiver, WithdrawReceiver, PlaceWall, WithdrawWall, Ask, perform}
+use Rattle.history.specs.History.{storeAfter, RealCall, answerTo, Real, accepted, kept, sourceMove, receiverMove, wallMove, allLeave, lastAt, inSlots}
+use Rattle.history.specs.History.{standingSource, standingReceiver, standingWall, standingSources, standingReceivers, standingWalls, SumsOf, HoldsWhatStands, NeverLate, Rule, AcceptsByRule}
+use Rattle.history.proofs.Slots.{all-none, omap-none, slots-moved, slots-none}
+use Rattle.history.proofs.Filled.{fill, ReceiverStands, Standing, fill-at, standing-sound, Next, Leads, place-source, withdraw-source}
+use Rattle.history.proofs.Filled.{place-receiver, withdraw-receiver, place-wall, withdraw-wall, ask-receiver, ask-tells}
+use Rattle.history.proofs.Laws.{StoreLaws}
 
 -- ---- for any bytes: a contract that gives the outcome settles it, and a refused call leaves all as it was
 

@@ -14,8 +14,8 @@ use Rattle.calls.specs.declared.Answer.{Answer}
 use Rattle.calls.specs.declared.Answer.the-variants.{Done, Refused}
 use Rattle.calls.specs.Calls.{Step, placeSource, withdrawSource, placeReceiver, withdrawReceiver, placeWall, withdrawWall, askReceiver, onStore, clearStore}
 use Rattle.calls.proofs.Keeps.{Keep, source-in, source-out, receiver-in, receiver-out, wall-in, wall-out, asked, told-sound}
-use Rattle.book.specs.History.{Call, Clear, PlaceSource, WithdrawSource, PlaceReceiver, WithdrawReceiver, PlaceWall, WithdrawWall, Ask, perform}
-use Rattle.book.specs.History.{RealCall}
+use Rattle.history.specs.History.{Call, Clear, PlaceSource, WithdrawSource, PlaceReceiver, WithdrawReceiver, PlaceWall, WithdrawWall, Ask, perform}
+use Rattle.history.specs.History.{RealCall}
 
 step-sound : (s : List ℕ) (f : Book → Step) → damaged s ≡ false → Keep (f (bookOf s)) → damaged (onStore f s .1) ≡ false
 unfolding onStore
