@@ -1,59 +1,21 @@
 // Job records (METHOD 3): read from the front of a job, and written, most significant bit first,
 // with the level table lent. What each kind says is in `kinds`; refusals and bytes are done here, once for all kinds.
-mod kinds;
-
 use answer::Refusal;
-use course::Piece;
-use daily::Daily;
-use road::Receiver;
+use request::Reading;
+use request::Request;
+use request::Told;
+use request::Written;
 use road::Source;
 use road::Verdict;
-use screen::Wall;
 ghost use mathlib.Core.Path.{_≡_};
 ghost use mathlib.Core.List.{_++_};
 ghost use Prim.Native.Nat.{_≤_, _<_};
 ghost use lib.ListN.{length, drop};
 ghost use Rattle.level.specs.Table.{table};
 ghost use Rattle.layout.specs.Layout.{size, fields, packed, Within};
-ghost use Rattle.codec.specs.Kinds.{layoutOf};
-ghost use Rattle.codec.specs.Inner.{firstOf};
-ghost use Rattle.codec.specs.Record.{kindOf, extentOf, refused, heard, readOf, writeOf};
-
-// How the traffic of a source is told: by counts for each period, which the source has, or by its daily figure, as it can be for a piece
-// that is not cut.
-pub enum Counts {
-    ByPeriod,
-    ByDay(Piece, Daily),
-}
-
-// What a record asks for; the number is the slot. The road of PlaceSource stands beside the call, since it holds an array.
-pub enum Request {
-    PlaceReceiver(u16, Receiver),
-    WithdrawReceiver(u16),
-    PlaceSource(u16, Counts),
-    WithdrawSource(u16),
-    Ask(u16),
-    PlaceWall(u16, Wall),
-    WithdrawWall(u16),
-}
-
-// What a reading tells: a call, or why there is none.
-pub enum Told {
-    Request(Request),
-    Refused(Refusal),
-}
-
-// A reading. The source is the road of PlaceSource, by its daily figure the one that it stands for; all zero otherwise.
-pub struct Reading {
-    pub told: Told,
-    pub source: Source,
-}
-
-// What comes of writing.
-pub enum Written {
-    Done,
-    Refused(Refusal),
-}
+ghost use Rattle.request.specs.Kinds.{layoutOf};
+ghost use Rattle.request.specs.Inner.{firstOf};
+ghost use Rattle.request.specs.Record.{kindOf, extentOf, refused, heard, readOf, writeOf};
 
 // The kind that a job begins with; 0, which is no kind, where there is no byte.
 fn kind_of(job: &[u8]) -> usize

@@ -11,7 +11,7 @@ use lib.ListN.{length, take, drop, length-append, length-drop}
 use lib.Seq.{take-nil, take-at, take-append-le, take-append-add, drop-at, drop-drop, length-take-le}
 use Rattle.layout.specs.Layout.{Bytes}
 use Rattle.layout.proofs.Numbers.{bytes-append, bytes-take, bytes-drop}
-use Rattle.codec.specs.Kinds.{longestRecord}
+use Rattle.request.specs.Kinds.{longestRecord}
 use Rattle.answer.specs.declared.Refusal.the-variants.{Damaged}
 use Rattle.store.specs.Store.{damaged, storeLength, clearedBytes}
 use Rattle.store.proofs.Laws.{cleared}

@@ -6,7 +6,7 @@ use mathlib.Core.Bool.{Bool, true, false}
 use mathlib.Core.List.{List, [], _++_}
 use lib.ListN.{length, take}
 use Rattle.layout.specs.Layout.{Bytes}
-use Rattle.codec.specs.Kinds.{longestRecord}
+use Rattle.request.specs.Kinds.{longestRecord}
 use Rattle.store.specs.Store.{damaged, clearedBytes}
 use Rattle.listing.specs.Listing.{lineRoom, endLine}
 use Rattle.machine.specs.declared.State.{State}

@@ -10,7 +10,7 @@ ghost use mathlib.Core.Bool.{false};
 ghost use Prim.Native.Nat.{_+_, _-_, _≤_, _<_};
 ghost use lib.ListN.{length, take};
 ghost use Rattle.level.specs.Table.{table};
-ghost use Rattle.codec.specs.Kinds.{longestRecord};
+ghost use Rattle.request.specs.Kinds.{longestRecord};
 ghost use Rattle.store.specs.Store.{damaged, storeLength};
 ghost use Rattle.listing.specs.Listing.{lineRoom};
 ghost use Rattle.machine.specs.Inner.{part};

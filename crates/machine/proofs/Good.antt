@@ -10,7 +10,7 @@ use lib.Dec.{ltb, leb}
 use lib.ListN.{length, take, drop, length-append, length-drop}
 use lib.Seq.{take-append-seam, drop-drop, drop-append-le}
 use Rattle.layout.specs.Layout.{Bytes}
-use Rattle.codec.specs.Kinds.{longestRecord}
+use Rattle.request.specs.Kinds.{longestRecord}
 use Rattle.service.specs.declared.Deed.{Deed}
 use Rattle.service.specs.Service.{doneTo}
 use Rattle.service.proofs.Laws.{goes-within}

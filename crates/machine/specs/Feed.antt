@@ -7,7 +7,7 @@ use mathlib.Core.List.{List, [], _++_}
 use lib.Dec.{leb, ltb}
 use lib.ListN.{length, take, drop}
 use Rattle.layout.specs.Layout.{Bytes}
-use Rattle.codec.specs.Kinds.{longestRecord}
+use Rattle.request.specs.Kinds.{longestRecord}
 use Rattle.service.specs.Service.{doneTo}
 use Rattle.listing.specs.Listing.{lineRoom, lineOf}
 use Rattle.machine.specs.declared.State.{State}

@@ -5,7 +5,7 @@ use mathlib.Core.Path.{_≡_}
 use mathlib.Core.List.{List, [], _∷_, _++_}
 use lib.ListN.{length, drop}
 use Rattle.layout.specs.Layout.{Bytes}
-use Rattle.codec.specs.Record.{lengthOf}
+use Rattle.request.specs.Record.{lengthOf}
 use Rattle.service.specs.declared.Deed.{Deed}
 use Rattle.service.specs.Service.{doneTo}
 use Rattle.listing.specs.Listing.{lineOf, endLine}

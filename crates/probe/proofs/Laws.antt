@@ -6,7 +6,7 @@ use Rattle.course.specs.declared.Piece.{Piece}
 use Rattle.screen.specs.declared.Wall.{Wall}
 use Rattle.road.specs.declared.Receiver.{Receiver}
 use Rattle.daily.specs.declared.Daily.{Daily}
-use Rattle.codec.specs.declared.Request.the-variants.{Ask}
+use Rattle.request.specs.declared.Request.the-variants.{Ask}
 use Rattle.probe.specs.Raw.{callBy}
 
 pub ask-else : (k slot : ℕ) (r : Receiver) (p : Piece) (f : Daily) (w : Wall) → (k ≡ 1 → ⊥) → (k ≡ 2 → ⊥) → (k ≡ 3 → ⊥) → (k ≡ 4 → ⊥) → (k ≡ 6 → ⊥) → (k ≡ 7 → ⊥) → (k ≡ 8 → ⊥) → (k ≡ 9 → ⊥)

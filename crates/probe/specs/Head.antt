@@ -4,9 +4,9 @@ use Prim.Native.Nat.{ℕ, _/_, _%_, min}
 use mathlib.Core.List.{List, [], _∷_}
 use Rattle.index.specs.declared.Index.{Index}
 use Rattle.index.specs.declared.Index.the-variants.{Quiet, Tenths}
-use Rattle.codec.specs.declared.Written.{Written}
-use Rattle.codec.specs.declared.Written.the-variants as written
-use Rattle.codec.specs.Record.{numberWritten, placeWritten}
+use Rattle.request.specs.declared.Written.{Written}
+use Rattle.request.specs.declared.Written.the-variants as written
+use Rattle.request.specs.Record.{numberWritten, placeWritten}
 use Rattle.service.specs.declared.Outcome.{Outcome}
 use Rattle.service.specs.declared.Outcome.the-variants.{Done, Levels, Refused}
 use Rattle.service.specs.Service.{outcomeNumber, outcomePlace}

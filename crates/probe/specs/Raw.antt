@@ -15,9 +15,9 @@ use Rattle.road.specs.declared.Receiver.{Receiver}
 use Rattle.road.specs.declared.Traffic.{Traffic}
 use Rattle.road.specs.declared.Source.{Source}
 use Rattle.daily.specs.declared.Daily.{Daily}
-use Rattle.codec.specs.declared.Counts.the-variants.{ByPeriod, ByDay}
-use Rattle.codec.specs.declared.Request.{Request}
-use Rattle.codec.specs.declared.Request.the-variants.{PlaceReceiver, WithdrawReceiver, PlaceSource, WithdrawSource, PlaceWall, WithdrawWall, Ask}
+use Rattle.request.specs.declared.Counts.the-variants.{ByPeriod, ByDay}
+use Rattle.request.specs.declared.Request.{Request}
+use Rattle.request.specs.declared.Request.the-variants.{PlaceReceiver, WithdrawReceiver, PlaceSource, WithdrawSource, PlaceWall, WithdrawWall, Ask}
 
 abbrev pub one : List ℕ → ℕ → ℕ
 one s i = getD s i 0

@@ -13,13 +13,13 @@ use Rattle.road.specs.declared.Source.{Source}
 use Rattle.road.specs.declared.Verdict.{Verdict}
 use Rattle.road.specs.declared.Verdict.the-variants as verdict
 use Rattle.road.proofs.Judged.{ByFields}
-use Rattle.codec.specs.declared.Request.{Request}
-use Rattle.codec.specs.declared.Reading.{Reading}
-use Rattle.codec.specs.declared.Written.{Written}
-use Rattle.codec.specs.declared.Written.the-variants as written
-use Rattle.codec.specs.Kinds.{callIn, sourceIn, verdictOf}
-use Rattle.codec.specs.Record.{kindOf, valuesOf, cutShort, unknownKind, leftoverSet, judged, readOf, recordOf, writtenBy, writeOf, numberTold, numberWritten}
-use Rattle.codec.proofs.Numbers.{verdict-by}
+use Rattle.request.specs.declared.Request.{Request}
+use Rattle.request.specs.declared.Reading.{Reading}
+use Rattle.request.specs.declared.Written.{Written}
+use Rattle.request.specs.declared.Written.the-variants as written
+use Rattle.request.specs.Kinds.{callIn, sourceIn, verdictOf}
+use Rattle.request.specs.Record.{kindOf, valuesOf, cutShort, unknownKind, leftoverSet, judged, readOf, recordOf, writtenBy, writeOf, numberTold, numberWritten}
+use Rattle.request.proofs.Numbers.{verdict-by}
 use Rattle.record.specs.Numbers.{ReaderNumber, WriterNumber, Numbers}
 
 -- ---- reading

@@ -1,6 +1,6 @@
 -- The round trips of records and their part, all together; the laws behind them are in codec/proofs/Trips.antt.
 -- Assumes nothing.
-use Rattle.codec.proofs.Trips.{write-read, read-written, part-read, part-refused}
+use Rattle.request.proofs.Trips.{write-read, read-written, part-read, part-refused}
 use Rattle.record.specs.Trips.{Trips}
 
 pub trips : Trips

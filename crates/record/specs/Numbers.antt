@@ -6,8 +6,8 @@ use mathlib.Core.Logic.{_⊎_}
 use mathlib.Core.List.{List}
 use Rattle.answer.specs.Table.{Between}
 use Rattle.road.specs.declared.Source.{Source}
-use Rattle.codec.specs.declared.Request.{Request}
-use Rattle.codec.specs.Record.{readOf, writeOf, numberTold, numberWritten}
+use Rattle.request.specs.declared.Request.{Request}
+use Rattle.request.specs.Record.{readOf, writeOf, numberTold, numberWritten}
 
 abbrev pub ReaderNumber : ℕ → Type 0
 ReaderNumber n = (n ≡ 0) ⊎ Between 2 7 n

@@ -7,12 +7,12 @@ use lib.ListN.{length, take, drop}
 use Rattle.layout.specs.Layout.{Bytes}
 use Rattle.answer.specs.declared.Refusal.{Refusal}
 use Rattle.road.specs.declared.Source.{Source}
-use Rattle.codec.specs.declared.Request.{Request}
-use Rattle.codec.specs.declared.Told.the-variants as told
-use Rattle.codec.specs.declared.Written.{Written}
-use Rattle.codec.specs.declared.Written.the-variants as written
-use Rattle.codec.specs.Kinds.{sourceWith}
-use Rattle.codec.specs.Record.{reading, readOf, extentOf, partOf, writeOf}
+use Rattle.request.specs.declared.Request.{Request}
+use Rattle.request.specs.declared.Told.the-variants as told
+use Rattle.request.specs.declared.Written.{Written}
+use Rattle.request.specs.declared.Written.the-variants as written
+use Rattle.request.specs.Kinds.{sourceWith}
+use Rattle.request.specs.Record.{reading, readOf, extentOf, partOf, writeOf}
 
 pub record Trips : Type 0 where
   -- a record that is read, and written again where there is room for it: the same bytes, and the output past them stays

@@ -1,15 +1,15 @@
 // Job records for any caller (METHOD 3): no call here requires anything.
 // What a record is, and how it is read and written, is in `codec`; here each call makes the level table that `codec` is lent.
-pub use codec::Counts;
-pub use codec::Reading;
-pub use codec::Request;
-pub use codec::Told;
-pub use codec::Written;
+pub use request::Counts;
+pub use request::Reading;
+pub use request::Request;
+pub use request::Told;
+pub use request::Written;
 use road::Source;
 ghost use mathlib.Core.Path.{_≡_};
 ghost use Prim.Native.Nat.{_≤_};
 ghost use lib.ListN.{length, take};
-ghost use Rattle.codec.specs.Record.{extentOf, readOf, partOf, writeOf};
+ghost use Rattle.request.specs.Record.{extentOf, readOf, partOf, writeOf};
 
 // How many bytes the record at the front takes by its kind; 0 where it is refused 2 or 3.
 pub fn extent(job: &[u8]) -> usize

@@ -21,14 +21,14 @@ use Rattle.road.proofs.Rows.{upto, all-of, upto-take, within-upto}
 use Rattle.daily.specs.declared.Daily.{Daily}
 use Rattle.daily.specs.Daily.{busiest, lastClass, countsOf, dailyTable, dailyBits, dailyOf}
 use Rattle.daily.proofs.Laws.{same-verdict, counts-within}
-use Rattle.codec.specs.declared.Counts.the-variants as counts
-use Rattle.codec.specs.declared.Request.{Request}
-use Rattle.codec.specs.declared.Request.the-variants as request
-use Rattle.codec.specs.declared.Reading.{Reading}
-use Rattle.codec.specs.Kinds.{kindBits, sourceSlotBits, lastNamedSource, afterPiece, at, kindAt, layoutOf, callIn, sourceIn, leftoverOf, verdictOf, kindNumber, fieldsOf}
-use Rattle.codec.specs.Record.{kindOf, judged, readOf, extentOf, recordOf}
-use Rattle.codec.proofs.Laws.{part-within}
-use Rattle.codec.proofs.Trips.{read-fields, read-record}
+use Rattle.request.specs.declared.Counts.the-variants as counts
+use Rattle.request.specs.declared.Request.{Request}
+use Rattle.request.specs.declared.Request.the-variants as request
+use Rattle.request.specs.declared.Reading.{Reading}
+use Rattle.request.specs.Kinds.{kindBits, sourceSlotBits, lastNamedSource, afterPiece, at, kindAt, layoutOf, callIn, sourceIn, leftoverOf, verdictOf, kindNumber, fieldsOf}
+use Rattle.request.specs.Record.{kindOf, judged, readOf, extentOf, recordOf}
+use Rattle.request.proofs.Laws.{part-within}
+use Rattle.request.proofs.Trips.{read-fields, read-record}
 use Rattle.service.specs.declared.Deed.{Deed}
 use Rattle.service.specs.Service.{answerTold, deed, doneTo}
 use Rattle.service.specs.ByDay.{numbersOf, figureIn, spelledOut, Alike, ByDay}

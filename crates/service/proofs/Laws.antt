@@ -10,12 +10,12 @@ use lib.ListN.{length}
 use Rattle.answer.specs.declared.Refusal.{Refusal}
 use Rattle.answer.specs.declared.Refusal.the-variants.{Damaged}
 use Rattle.road.specs.declared.Source.{Source}
-use Rattle.codec.specs.declared.Request.{Request}
-use Rattle.codec.specs.declared.Request.the-variants as request
-use Rattle.codec.specs.declared.Told.{Told}
-use Rattle.codec.specs.declared.Told.the-variants as told
-use Rattle.codec.specs.Record.{lengthOf, readOf, extentOf}
-use Rattle.codec.proofs.Trips.{three-periods}
+use Rattle.request.specs.declared.Request.{Request}
+use Rattle.request.specs.declared.Request.the-variants as request
+use Rattle.request.specs.declared.Told.{Told}
+use Rattle.request.specs.declared.Told.the-variants as told
+use Rattle.request.specs.Record.{lengthOf, readOf, extentOf}
+use Rattle.request.proofs.Trips.{three-periods}
 use Rattle.store.specs.Store.{Book, damaged}
 use Rattle.calls.specs.declared.Answer.{Answer}
 use Rattle.calls.specs.declared.Answer.the-variants as answer

@@ -6,11 +6,11 @@ use mathlib.Core.List.{List, _++_}
 use native.Mathlib.Omega.{arith}
 use lib.ListN.{length}
 use Rattle.layout.specs.Layout.{Bytes}
-use Rattle.codec.specs.declared.Reading.{Reading}
-use Rattle.codec.specs.Kinds.{longestRecord}
-use Rattle.codec.specs.Record.{kindOf, lengthOf}
-use Rattle.codec.proofs.Rows.{row-longest}
-use Rattle.codec.proofs.Own.{read-own, extent-own}
+use Rattle.request.specs.declared.Reading.{Reading}
+use Rattle.request.specs.Kinds.{longestRecord}
+use Rattle.request.specs.Record.{kindOf, lengthOf}
+use Rattle.request.proofs.Rows.{row-longest}
+use Rattle.request.proofs.Own.{read-own, extent-own}
 use Rattle.service.specs.Service.{deed, answerTold, doneTo}
 
 module _ (s t store : List ℕ) (b : Bytes t) (h : 0 < length s) where

@@ -17,14 +17,14 @@ use Rattle.road.specs.declared.Verdict.{Verdict}
 use Rattle.road.specs.declared.Verdict.the-variants as verdict
 use Rattle.road.proofs.Judged.{ByFields}
 use Rattle.store.specs.Store.{Book, damaged}
-use Rattle.codec.specs.declared.Request.{Request}
-use Rattle.codec.specs.declared.Told.{Told}
-use Rattle.codec.specs.declared.Told.the-variants as told
-use Rattle.codec.specs.declared.Reading.{Reading}
-use Rattle.codec.specs.Kinds.{callIn, sourceIn, verdictOf}
-use Rattle.codec.specs.Record.{kindOf, lengthOf, valuesOf, cutShort, unknownKind, leftoverSet, judged, heard, readOf, extentOf}
-use Rattle.codec.proofs.Laws.{extent-whole, extent-none, uncut, read-cut, read-unknown, read-leftover, read-heard}
-use Rattle.codec.proofs.Numbers.{verdict-by}
+use Rattle.request.specs.declared.Request.{Request}
+use Rattle.request.specs.declared.Told.{Told}
+use Rattle.request.specs.declared.Told.the-variants as told
+use Rattle.request.specs.declared.Reading.{Reading}
+use Rattle.request.specs.Kinds.{callIn, sourceIn, verdictOf}
+use Rattle.request.specs.Record.{kindOf, lengthOf, valuesOf, cutShort, unknownKind, leftoverSet, judged, heard, readOf, extentOf}
+use Rattle.request.proofs.Laws.{extent-whole, extent-none, uncut, read-cut, read-unknown, read-leftover, read-heard}
+use Rattle.request.proofs.Numbers.{verdict-by}
 use Rattle.calls.specs.declared.Answer.{Answer}
 use Rattle.calls.specs.declared.Answer.the-variants as answer
 use Rattle.calls.specs.Calls.{refuse}

@@ -8,8 +8,8 @@ use Rattle.layout.specs.Layout.{Bytes, size, fields, packed}
 use Rattle.road.specs.Fields.{pieceTable, roadTable}
 use Rattle.daily.specs.declared.Daily.{Daily}
 use Rattle.daily.specs.Daily.{busiest, countsOf, dailyOf}
-use Rattle.codec.specs.Kinds.{afterPiece, at, layoutOf, leftoverOf}
-use Rattle.codec.specs.Record.{kindOf}
+use Rattle.request.specs.Kinds.{afterPiece, at, layoutOf, leftoverOf}
+use Rattle.request.specs.Record.{kindOf}
 use Rattle.service.specs.declared.Deed.{Deed}
 use Rattle.service.specs.Service.{doneTo}
 

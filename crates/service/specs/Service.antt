@@ -10,11 +10,11 @@ use lib.ListN.{length}
 use Rattle.answer.specs.declared.Refusal.{Refusal}
 use Rattle.answer.specs.Table.{numberBy, placeBy}
 use Rattle.road.specs.declared.Source.{Source}
-use Rattle.codec.specs.declared.Request.{Request}
-use Rattle.codec.specs.declared.Request.the-variants as request
-use Rattle.codec.specs.declared.Told.{Told}
-use Rattle.codec.specs.declared.Told.the-variants as told
-use Rattle.codec.specs.Record.{readOf, extentOf}
+use Rattle.request.specs.declared.Request.{Request}
+use Rattle.request.specs.declared.Request.the-variants as request
+use Rattle.request.specs.declared.Told.{Told}
+use Rattle.request.specs.declared.Told.the-variants as told
+use Rattle.request.specs.Record.{readOf, extentOf}
 use Rattle.store.specs.Store.{damaged}
 use Rattle.calls.specs.declared.Answer.{Answer}
 use Rattle.calls.specs.declared.Answer.the-variants as answer

@@ -2,9 +2,9 @@
 // What comes of it is a definition of specs/Service.antt, and the store stays undamaged.
 use answer::Refusal;
 use calls::Answer;
-use codec::Request;
-use codec::Told;
 use index::Index;
+use request::Request;
+use request::Told;
 use road::Source;
 ghost use mathlib.Core.Path.{_≡_};
 ghost use mathlib.Core.Bool.{false};

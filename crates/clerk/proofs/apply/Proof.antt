@@ -2,7 +2,7 @@
 use mathlib.Core.Path.{sym, ap, _∙_}
 use Prim.Native.Nat.{ℕ}
 use Rattle.answer.specs.declared.Refusal.the-variants.{Damaged}
-use Rattle.codec.specs.declared.Told.the-variants as told
+use Rattle.request.specs.declared.Told.the-variants as told
 use Rattle.calls.specs.declared.Answer.the-variants as answer
 use Rattle.service.specs.Service.{deed}
 use borrow.Author.Needs.{needs}

@@ -5,10 +5,10 @@ use mathlib.Core.Path.{_≡_, ap, _∙_}
 use native.Mathlib.Omega.{arith}
 use denote.Ref.{now}
 use Rattle.layout.specs.Layout.{size}
-use Rattle.codec.specs.declared.kinds.Shape.{Shape}
-use Rattle.codec.specs.Kinds.{layoutOf}
-use Rattle.codec.specs.Record.{lengthOf}
-use Rattle.codec.proofs.Laws.{extent-whole, extent-none}
+use Rattle.request.specs.declared.Shape.{Shape}
+use Rattle.request.specs.Kinds.{layoutOf}
+use Rattle.request.specs.Record.{lengthOf}
+use Rattle.request.proofs.Laws.{extent-whole, extent-none}
 use borrow.Author.Needs.{needs}
 use Rattle.codec.proofs.extent.Statement.{statement}
 use Rattle.codec.proofs.extent.Tie as tie

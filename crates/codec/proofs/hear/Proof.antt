@@ -2,7 +2,7 @@
 -- Assumes nothing.
 use mathlib.Core.Path.{sym, _∙_}
 use denote.Ref.{now}
-use Rattle.codec.proofs.Laws.{heard-refused, heard-allowed}
+use Rattle.request.proofs.Laws.{heard-refused, heard-allowed}
 use borrow.Author.Needs.{needs}
 use Rattle.codec.proofs.hear.Statement.{statement}
 use Rattle.codec.proofs.hear.Tie as tie

@@ -1,7 +1,7 @@
 -- `kind_of` reads the first bits; without a byte there is no kind.
 -- Assumes nothing.
 use denote.Ref.{now}
-use Rattle.codec.proofs.Laws.{no-kind}
+use Rattle.request.proofs.Laws.{no-kind}
 use borrow.Author.Needs.{needs}
 use Rattle.codec.proofs.kind_of.Statement.{statement}
 use Rattle.codec.proofs.kind_of.Tie as tie

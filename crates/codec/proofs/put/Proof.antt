@@ -8,10 +8,10 @@ use denote.Ref.{now}
 use lib.ListN.{length, take, drop}
 use Rattle.layout.specs.Layout.{size, sized, packed, Within}
 use Rattle.layout.proofs.Packing.{within-length}
-use Rattle.codec.specs.declared.kinds.Shape.{Shape}
-use Rattle.codec.specs.Kinds.{layoutOf}
-use Rattle.codec.specs.Inner.{firstOf}
-use Rattle.codec.proofs.Rows.{row-sized}
+use Rattle.request.specs.declared.Shape.{Shape}
+use Rattle.request.specs.Kinds.{layoutOf}
+use Rattle.request.specs.Inner.{firstOf}
+use Rattle.request.proofs.Rows.{row-sized}
 use borrow.Author.Needs.{needs}
 use Rattle.codec.proofs.put.Statement.{statement}
 use Rattle.codec.proofs.put.Tie as tie

@@ -11,11 +11,11 @@ use lib.ListN.{length, replicate}
 use lib.Seq.{length-take-le}
 use Rattle.layout.specs.Layout.{size, fields, Within}
 use Rattle.layout.proofs.Laws.{length-fields, fields-within}
-use Rattle.codec.specs.declared.kinds.Shape.{Shape}
-use Rattle.codec.specs.Kinds.{layoutOf}
-use Rattle.codec.specs.Record.{lengthOf, cutShort, unknownKind, heard}
-use Rattle.codec.proofs.Rows.{row-count, row-fields}
-use Rattle.codec.proofs.Laws.{read-into, read-room, first-values, uncut, leftover-at, read-cut, read-unknown, read-leftover, read-heard}
+use Rattle.request.specs.declared.Shape.{Shape}
+use Rattle.request.specs.Kinds.{layoutOf}
+use Rattle.request.specs.Record.{lengthOf, cutShort, unknownKind, heard}
+use Rattle.request.proofs.Rows.{row-count, row-fields}
+use Rattle.request.proofs.Laws.{read-into, read-room, first-values, uncut, leftover-at, read-cut, read-unknown, read-leftover, read-heard}
 use borrow.Author.Needs.{needs}
 use Rattle.codec.proofs.read.Statement.{statement}
 use Rattle.codec.proofs.read.Tie as tie

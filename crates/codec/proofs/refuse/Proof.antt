@@ -1,8 +1,8 @@
 -- `refuse` answers with a refusal and a source that is all zero.
 -- Assumes nothing.
 use mathlib.Core.Path.{ap}
-use Rattle.codec.specs.declared.Told.the-variants.{Refused}
-use Rattle.codec.specs.Record.{reading}
+use Rattle.request.specs.declared.Told.the-variants.{Refused}
+use Rattle.request.specs.Record.{reading}
 use borrow.Author.Needs.{needs}
 use Rattle.codec.proofs.refuse.Statement.{statement}
 use Rattle.codec.proofs.refuse.Tie as tie

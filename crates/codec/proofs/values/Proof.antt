@@ -7,8 +7,8 @@ use native.Mathlib.Omega.{arith}
 use denote.Ref.{now}
 use lib.ListN.{length}
 use Rattle.layout.specs.Layout.{size, sized, fields}
-use Rattle.codec.specs.Kinds.{layoutOf}
-use Rattle.codec.proofs.Rows.{row-sized}
+use Rattle.request.specs.Kinds.{layoutOf}
+use Rattle.request.proofs.Rows.{row-sized}
 use borrow.Author.Needs.{needs}
 use Rattle.codec.proofs.values.Statement.{statement}
 use Rattle.codec.proofs.values.Tie as tie

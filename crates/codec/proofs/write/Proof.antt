@@ -8,11 +8,11 @@ use denote.Ref.{now}
 use lib.ListN.{drop}
 use Rattle.layout.specs.Layout.{size}
 use Rattle.road.specs.declared.Verdict.the-variants.{Allowed}
-use Rattle.codec.specs.declared.Written.the-variants.{Done}
-use Rattle.codec.specs.declared.kinds.Shape.{Shape}
-use Rattle.codec.specs.Kinds.{layoutOf, verdictOf}
-use Rattle.codec.proofs.Laws.{write-refused, write-short, write-done}
-use Rattle.codec.proofs.Calls.{written-within, written-record}
+use Rattle.request.specs.declared.Written.the-variants.{Done}
+use Rattle.request.specs.declared.Shape.{Shape}
+use Rattle.request.specs.Kinds.{layoutOf, verdictOf}
+use Rattle.request.proofs.Laws.{write-refused, write-short, write-done}
+use Rattle.request.proofs.Calls.{written-within, written-record}
 use borrow.Author.Needs.{needs}
 use Rattle.codec.proofs.write.Statement.{statement}
 use Rattle.codec.proofs.write.Tie as tie

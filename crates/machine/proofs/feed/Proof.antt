@@ -6,7 +6,7 @@ use mathlib.Core.Path.{_≡_, refl, sym, _∙_}
 use borrow.Author.Needs.{needs}
 use denote.Ref.{now}
 use lib.ListN.{length, length-drop}
-use Rattle.codec.specs.Kinds.{longestRecord}
+use Rattle.request.specs.Kinds.{longestRecord}
 use Rattle.listing.specs.Listing.{lineRoom}
 use Rattle.machine.specs.Feed.{ready}
 use Rattle.machine.proofs.Feeding.{Going, going-begun, going-on, going-stopped, going-paused, feed-stopped}

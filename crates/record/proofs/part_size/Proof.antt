@@ -5,10 +5,10 @@ use mathlib.Core.Path.{sym, ap, _∙_}
 use native.Mathlib.Omega.{arith}
 use denote.Ref.{now}
 use lib.ListN.{take}
-use Rattle.codec.specs.declared.Told.{Told}
-use Rattle.codec.specs.declared.Reading.{Reading}
-use Rattle.codec.specs.Record.{partBy, partOf}
-use Rattle.codec.proofs.Laws.{extent-le}
+use Rattle.request.specs.declared.Told.{Told}
+use Rattle.request.specs.declared.Reading.{Reading}
+use Rattle.request.specs.Record.{partBy, partOf}
+use Rattle.request.proofs.Laws.{extent-le}
 use borrow.Author.Needs.{needs}
 use Rattle.record.proofs.part_size.Statement.{statement}
 use Rattle.record.proofs.part_size.Tie as tie

@@ -1,7 +1,7 @@
 -- `perform` hands each call to the inner call of the book; on an undamaged store that is what the book's own call gives. Assumes nothing.
 use mathlib.Core.Path.{sym, ap, _∙_}
 use borrow.Author.Needs.{needs}
-use Rattle.codec.specs.declared.Request.{Request}
+use Rattle.request.specs.declared.Request.{Request}
 use Rattle.calls.specs.Calls.{placeSource, withdrawSource, placeReceiver, withdrawReceiver, placeWall, withdrawWall, askReceiver}
 use Rattle.history.specs.History.{perform}
 use Rattle.calls.proofs.Entries.{on-sound}

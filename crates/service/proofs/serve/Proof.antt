@@ -3,10 +3,10 @@ use mathlib.Core.Path.{_≡_, sym, ap, _∙_}
 use mathlib.Core.List.{List}
 use Prim.Native.Nat.{ℕ}
 use borrow.Author.Needs.{needs}
-use Rattle.codec.specs.declared.Reading.{Reading}
+use Rattle.request.specs.declared.Reading.{Reading}
 use Rattle.calls.specs.declared.Answer.{Answer}
-use Rattle.codec.specs.declared.Told.the-variants as told
-use Rattle.codec.specs.Record.{readOf}
+use Rattle.request.specs.declared.Told.the-variants as told
+use Rattle.request.specs.Record.{readOf}
 use Rattle.calls.specs.declared.Answer.the-variants as answer
 use Rattle.service.specs.Service.{outcomeOf, deed}
 use Rattle.service.proofs.Laws.{called, called-sound, unread}

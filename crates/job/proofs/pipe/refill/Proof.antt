@@ -4,7 +4,7 @@ use native.Mathlib.Omega.{arith}
 use lib.Dec.{leb}
 use denote.Ref.{now}
 use borrow.Author.Needs.{needs}
-use Rattle.codec.specs.Kinds.{longestRecord}
+use Rattle.request.specs.Kinds.{longestRecord}
 use Rattle.job.proofs.Laws.{stays-at-hand, short-of, held-front, refilled}
 use Rattle.job.proofs.pipe.refill.Statement.{statement}
 use Rattle.job.proofs.pipe.refill.Tie as tie

@@ -3,8 +3,8 @@
 use Prim.Native.Nat.{ℕ}
 use mathlib.Core.Path.{sym, ap, _∙_}
 use denote.Ref.{now}
-use Rattle.codec.specs.declared.Counts.the-variants.{ByPeriod, ByDay}
-use Rattle.codec.specs.declared.Request.the-variants.{PlaceReceiver, WithdrawReceiver, PlaceSource, WithdrawSource, PlaceWall, WithdrawWall, Ask}
+use Rattle.request.specs.declared.Counts.the-variants.{ByPeriod, ByDay}
+use Rattle.request.specs.declared.Request.the-variants.{PlaceReceiver, WithdrawReceiver, PlaceSource, WithdrawSource, PlaceWall, WithdrawWall, Ask}
 use Rattle.probe.specs.Raw.{one, two, rawReceiver, rawPiece, rawDaily, rawWall, callBy}
 use Rattle.probe.proofs.Laws.{ask-else}
 use borrow.Author.Needs.{needs}

@@ -1,7 +1,7 @@
 -- `of_written` goes case by case.
 -- Assumes nothing.
 use mathlib.Core.Path.{sym, ap, _∙_}
-use Rattle.codec.specs.declared.Written.{Written}
+use Rattle.request.specs.declared.Written.{Written}
 use Rattle.probe.specs.Head.{ofWritten}
 use borrow.Author.Needs.{needs}
 use Rattle.probe.proofs.head.of_written.Statement.{statement}

@@ -1,0 +1,2 @@
+-- The public functions settle their outcomes.
+pub mod Settled
