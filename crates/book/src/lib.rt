@@ -1,5 +1,5 @@
 // The book: sources, receivers and noise walls in a store that the caller lends, and the calls on it.
-// What each call answers and leaves, for every store, is a definition of undamaged/specs/Calls.antt; no call here requires anything.
+// What each call answers and leaves, for every store, is a definition of calls/specs/Calls.antt; no call here requires anything.
 use answer::Refusal;
 pub use calls::Answer;
 use road::Receiver;

@@ -1,5 +1,5 @@
 // What a road gives out (VBUS section 3.5), worked out once for a source, whatever the points are.
-// The terms are those of specs/Emission.antt, one function for each.
+// The terms are those of road/specs/Emission.antt, one function for each.
 use road::Pace;
 use road::Sent;
 use road::Source;

@@ -1,4 +1,4 @@
-// The fields of a source, of a receiver and of a noise wall, a row for each, as in specs/Fields.antt: what records, slots and verdicts are made from.
+// The fields of a source, of a receiver and of a noise wall, a row for each, as in road/specs/Fields.antt: what records, slots and verdicts are made from.
 // Values are numbers of 64 bits in the order of the rows.
 pub mod limits;
 

@@ -1,5 +1,5 @@
-// The limits of the fields, each named once, as in specs/Limits.antt. Lengths are in cm.
-// The codes of surfaces and of reflections go as far as the tables of emission.rt.
+// The limits of the fields, each named once, as in road/specs/Limits.antt. Lengths are in cm.
+// The codes of surfaces and of reflections go as far as the tables of the crate emission.
 
 // The largest number of 24 bits.
 pub const COORDINATE: u64 = 16777215;

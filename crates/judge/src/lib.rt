@@ -1,4 +1,4 @@
-// Which fields are allowed: refusals 5, 6 and 7 of METHOD 9, by the limits of the rows of fields.rt.
+// Which fields are allowed: refusals 5, 6 and 7 of METHOD 9, by the limits of the rows of the crate fields.
 // The slot is field 1 and is judged first.
 use answer::Refusal;
 use course::Course;

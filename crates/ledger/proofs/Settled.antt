@@ -38,18 +38,6 @@ go-round-settled l a x y p q =
     let g = p .0 .seats free (p .2) ∙ sym (q .0 .seats free (q .2)) in
     λ i. record { stop = e i; late = f i; seats = g i }
 
--- where the accounts afresh are stopped; and all of a round that is not
-go-afresh-stop-settled : Settles (λ l a r e. r .stop) proofs.afresh.go_afresh.Reads.Post
-go-afresh-stop-settled l a x y p q = p .stop ∙ sym (q .stop)
-
-go-afresh-settled : Settles (λ l a r e. r) (λ l a r e. proofs.afresh.go_afresh.Reads.Post l a r e × (r .stop ≡ Nowhere) × (r .late ≡ false))
-go-afresh-settled l a x y p q =
-    let free = stop-none _ (sym (p .0 .stop) ∙ p .1) in
-    let e = p .0 .stop ∙ sym (q .0 .stop) in
-    let f = p .2 ∙ sym (q .2) in
-    let g = p .0 .seats free (p .2) ∙ sym (q .0 .seats free (q .2)) in
-    λ i. record { stop = e i; late = f i; seats = g i }
-
 -- the walls of the numbers that are lent
 standing-settled : Settles (λ l a r e. wallsOf (take r (now (e .1 .0)))) proofs.fences.standing.Reads.Post
 standing-settled l a x y p q = p .walls ∙ sym (q .walls)

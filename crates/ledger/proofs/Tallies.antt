@@ -31,9 +31,9 @@ use Rattle.store.specs.Slots.{Each}
 use Rattle.store.specs.Store.{sourceCount, receiverCount, HeldStands}
 use Rattle.ledger.specs.declared.round.Stop.{Stop}
 use Rattle.ledger.specs.declared.round.Round.{Round}
-use Rattle.ledger.specs.declared.afresh.Block.{Block}
-use Rattle.ledger.specs.declared.afresh.Block.the-variants.{Nothing, By}
-use Rattle.ledger.specs.declared.afresh.Tally.{Tally}
+use Rattle.ledger.specs.declared.Block.{Block}
+use Rattle.ledger.specs.declared.Block.the-variants.{Nothing, By}
+use Rattle.ledger.specs.declared.Tally.{Tally}
 use Rattle.ledger.specs.Lists.{omap, present, every, barAt, orBar, firstBar, weigh}
 use Rattle.ledger.specs.Changes.{follow, barOf, onward, together, renewing}
 use Rattle.ledger.specs.Ledger.{toSeat, stopOf, tally, begun, orBlock, heardBy, heardFrom, heardAt, heardAll, Ready, AllReady, blockedOr, firstBlock, Rounded}

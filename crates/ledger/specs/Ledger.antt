@@ -34,9 +34,9 @@ use Rattle.ledger.specs.declared.round.Round.{Round}
 use Rattle.ledger.specs.declared.gather.Offer.{Offer}
 use Rattle.ledger.specs.declared.gather.Offer.the-variants.{Free as Nobody, Heard as Brings, Barred as Stops}
 use Rattle.ledger.specs.declared.gather.Gathered.{Gathered}
-use Rattle.ledger.specs.declared.afresh.Block.{Block}
-use Rattle.ledger.specs.declared.afresh.Block.the-variants.{Nothing, By}
-use Rattle.ledger.specs.declared.afresh.Tally.{Tally}
+use Rattle.ledger.specs.declared.Block.{Block}
+use Rattle.ledger.specs.declared.Block.the-variants.{Nothing, By}
+use Rattle.ledger.specs.declared.Tally.{Tally}
 use Rattle.ledger.specs.Lists.{omap, present, every, barAt, firstBar, weigh}
 use Rattle.ledger.specs.Changes.{Change, follow, barOf}
 

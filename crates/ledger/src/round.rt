@@ -102,7 +102,7 @@ fn meet(steps: &[u32; 1000], walls: &[u64], x: Held, s: Source, sent: Sent, addi
 }
 
 // A seat with nobody in it.
-pub(crate) fn vacant() -> Seat
+pub fn vacant() -> Seat
     ensures { λ r. ⌜ r ≡ vacant ⌝ }
 {
     Seat {

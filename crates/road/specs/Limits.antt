@@ -1,4 +1,4 @@
--- The limits of the fields (METHOD 4), each named once: a limit is changed here and in src/limits.rt.
+-- The limits of the fields (METHOD 4), each named once: a limit is changed here and in fields/src/limits.rt.
 -- Lengths are in cm. The codes of surfaces and of reflections go as far as the tables of Emission.antt.
 use Prim.Native.Nat.{ℕ, _-_}
 use lib.ListN.{length}

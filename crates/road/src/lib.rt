@@ -1,5 +1,5 @@
-// Roads and the points where people live: which fields are allowed, and what a road gives out (VBUS sections 3.4, 3.5, 3.8).
-// Each term of the method is a definition of its own in specs/, those of the crate reach too; the code gives exactly their values.
+// Roads and the points where people live: which fields are allowed, what a road gives out, what of it reaches a point (VBUS sections 3.3 to 3.10).
+// Each is a definition in specs/, with its laws in proofs/; the only code here is the types. Its values are given by emission, judge and reach.
 use answer::Refusal;
 use course::Course;
 use course::Piece;

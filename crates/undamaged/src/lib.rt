@@ -1,9 +1,8 @@
 // The calls of the book on a store that is known to be undamaged, with the level table lent: no look for damage.
-// What each answers and leaves is a definition of specs/Calls.antt; the store stays undamaged, so that the next call can follow.
+// What each answers and leaves is a definition of calls/specs/Calls.antt; the store stays undamaged, so that the next call can follow.
 use answer::Refusal;
 use calls::Answer;
 use index::Index;
-use ledger::afresh;
 use ledger::fences;
 use ledger::gather;
 use ledger::round;

@@ -6,11 +6,11 @@ use borrow.Author.Needs.{needs}
 use lib.ListN.{length, getD, drop}
 use mathlib.Core.Option.{Option, none}
 use Rattle.store.specs.Store.{receiverCount}
 use Rattle.ledger.specs.declared.round.Stop.the-variants.{At}
 use Rattle.ledger.specs.Ledger.{stopOf, firstBlock}
 use Rattle.ledger.proofs.Tallies.{block-next, block-here, block-over}
-use Rattle.ledger.proofs.afresh.first_block.Statement.{statement}
-use Rattle.ledger.proofs.afresh.first_block.Tie as tie
+use Rattle.afresh.proofs.first_block.Statement.{statement}
+use Rattle.afresh.proofs.first_block.Tie as tie
 
 abbrev Inv-loop : tie.InvT-loop
 Inv-loop tallies j₀ j = (j ≤ receiverCount) × (firstBlock 0 tallies ≡ firstBlock j (drop j tallies))

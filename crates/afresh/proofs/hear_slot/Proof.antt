@@ -13,10 +13,10 @@ use Rattle.road.specs.Reach.{pairOf}
 use Rattle.store.specs.declared.SourceSlot.{SourceSlot}
 use Rattle.store.specs.Store.{bookOf, sourceAt, sourceSlotOf, SourceStands}
 use Rattle.store.proofs.Laws.{undamaged}
 use Rattle.ledger.specs.Ledger.{heardAt}
 use Rattle.ledger.proofs.Entries.{source-slot-free, source-slot-used, source-slot-stands}
-use Rattle.ledger.proofs.afresh.hear_slot.Statement.{statement}
-use Rattle.ledger.proofs.afresh.hear_slot.Tie as tie
+use Rattle.afresh.proofs.hear_slot.Statement.{statement}
+use Rattle.afresh.proofs.hear_slot.Tie as tie
 
 marked-requires : tie.Need-marked-requires
 marked-requires c κs = let s = c .before .before in (s .pre .2, undamaged (s .args .store .now) (s .pre .1) .0)

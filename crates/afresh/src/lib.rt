@@ -1,8 +1,10 @@
 // Every account worked out afresh, for walls that are others: each source is read and sends once, and is heard at every receiver.
 // What becomes of the accounts is told as a round, which no byte is written in.
-use crate::round;
-use crate::round::Round;
-use crate::round::Stop;
+use ledger::Block;
+use ledger::Tally;
+use ledger::round;
+use ledger::round::Round;
+use ledger::round::Stop;
 use road::Bar;
 use road::Pair;
 use road::Sent;
@@ -24,23 +26,11 @@ ghost use Rattle.road.specs.Judge.{sourceVerdict};
 ghost use Rattle.road.specs.Reach.{pairOf};
 ghost use Rattle.road.specs.Inner.{sentOf};
 ghost use Rattle.store.specs.Store.{sourceCount, receiverCount, damaged, bookOf, seatEntry};
 ghost use Rattle.ledger.specs.Lists.{present};
 ghost use Rattle.ledger.specs.Changes.{renewing};
 ghost use Rattle.road.specs.declared.Pair.the-variants.{Heard, Barred};
 ghost use Rattle.road.specs.Pairs.{Mild};
 ghost use Rattle.ledger.specs.Ledger.{begun, orBlock, heardBy, heardFrom, heardAt, heardAll, Ready, AllReady, firstBlock, stopOf, Rounded};
-
-// Whether a receiver is blocked: by the first source that is barred there.
-pub enum Block {
-    Nothing,
-    By(Bar),
-}
-
-// A receiver with the sums of the sources that were heard so far.
-pub struct Tally {
-    pub seat: Seat,
-    pub block: Block,
-}
 
 // A seat before any source was heard.
 fn begin(seat: Seat) -> Tally

@@ -9,11 +9,11 @@ use Rattle.screen.specs.Screen.{wallsOf}
 use Rattle.road.specs.Reach.{pairOf}
 use Rattle.store.specs.Store.{bookOf}
 use Rattle.store.proofs.Laws.{sound-book}
-use Rattle.ledger.specs.declared.afresh.Tally.{Tally}
+use Rattle.ledger.specs.declared.Tally.{Tally}
 use Rattle.ledger.specs.Lists.{present}
 use Rattle.ledger.proofs.Tallies.{afresh-rounded}
-use Rattle.ledger.proofs.afresh.go_afresh.Statement.{statement}
-use Rattle.ledger.proofs.afresh.go_afresh.Tie as tie
+use Rattle.afresh.proofs.go_afresh.Statement.{statement}
+use Rattle.afresh.proofs.go_afresh.Tie as tie
 
 reckon-requires : tie.Need-reckon-requires
 reckon-requires c κs = search needs

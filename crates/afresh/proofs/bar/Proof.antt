@@ -1,9 +1,9 @@
 -- `bar` leaves the seat as it is. Assumes nothing.
 use mathlib.Core.Path.{ap}
 use borrow.Author.Needs.{needs}
 use Rattle.ledger.specs.Ledger.{tally}
-use Rattle.ledger.proofs.afresh.bar.Statement.{statement}
-use Rattle.ledger.proofs.afresh.bar.Tie as tie
+use Rattle.afresh.proofs.bar.Statement.{statement}
+use Rattle.afresh.proofs.bar.Tie as tie
 
 block-by-requires : tie.Need-block-by-requires
 block-by-requires c κs = search needs

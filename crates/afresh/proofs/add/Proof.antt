@@ -6,9 +6,9 @@ use borrow.Author.Needs.{needs}
 use borrow.Author.Tests.{le-leb}
 use Rattle.level.specs.Level.{top}
 use Rattle.store.specs.declared.Account.{Account}
 use Rattle.ledger.specs.Ledger.{tally}
-use Rattle.ledger.proofs.afresh.add.Statement.{statement}
-use Rattle.ledger.proofs.afresh.add.Tie as tie
+use Rattle.afresh.proofs.add.Statement.{statement}
+use Rattle.afresh.proofs.add.Tie as tie
 
 plus-requires : tie.Need-plus-requires
 plus-requires c κs =

@@ -6,11 +6,11 @@ use borrow.Author.Needs.{needs}
 use lib.ListN.{length, getD, length-replicate}
 use mathlib.Core.Option.{none}
 use Rattle.store.specs.Store.{receiverCount}
-use Rattle.ledger.specs.declared.afresh.Tally.{Tally}
+use Rattle.ledger.specs.declared.Tally.{Tally}
 use Rattle.ledger.specs.Ledger.{begun}
 use Rattle.ledger.proofs.Mapped.{Filled, filled-none, filled-next, filled-all}
-use Rattle.ledger.proofs.afresh.seats_of.Statement.{statement}
-use Rattle.ledger.proofs.afresh.seats_of.Tie as tie
+use Rattle.afresh.proofs.seats_of.Statement.{statement}
+use Rattle.afresh.proofs.seats_of.Tie as tie
 
 abbrev Inv-loop : tie.InvT-loop
 Inv-loop tallies seats₀ j₀ seats j = (j ≤ receiverCount) × Filled (λ (t : Tally). t .seat) (begun none) tallies seats j

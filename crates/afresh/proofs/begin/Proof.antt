@@ -5,10 +5,10 @@ use mathlib.Core.Option.{none, some}
 use borrow.Author.Needs.{needs}
 use borrow.Author.Tests.{not-true, not-false}
 use Rattle.store.specs.declared.Seat.{Seat}
-use Rattle.ledger.specs.declared.afresh.Block.the-variants.{Nothing}
+use Rattle.ledger.specs.declared.Block.the-variants.{Nothing}
 use Rattle.ledger.specs.Ledger.{tally, begun}
-use Rattle.ledger.proofs.afresh.begin.Statement.{statement}
-use Rattle.ledger.proofs.afresh.begin.Tie as tie
+use Rattle.afresh.proofs.begin.Statement.{statement}
+use Rattle.afresh.proofs.begin.Tie as tie
 
 vacant-requires : tie.Need-vacant-requires
 vacant-requires c κs = search needs

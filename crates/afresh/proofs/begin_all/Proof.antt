@@ -9,10 +9,10 @@ use Rattle.store.specs.Store.{receiverCount, bookOf}
 use Rattle.store.proofs.Laws.{undamaged, sound-book, seat-is}
 use Rattle.store.specs.declared.Seat.{Seat}
 use Rattle.store.specs.Store.{seatEntry}
 use Rattle.ledger.specs.Ledger.{begun}
 use Rattle.ledger.proofs.Mapped.{Filled, filled-none, filled-next, filled-all}
-use Rattle.ledger.proofs.afresh.begin_all.Statement.{statement}
-use Rattle.ledger.proofs.afresh.begin_all.Tie as tie
+use Rattle.afresh.proofs.begin_all.Statement.{statement}
+use Rattle.afresh.proofs.begin_all.Tie as tie
 
 abbrev Inv-loop : tie.InvT-loop
 Inv-loop store tallies₀ j₀ tallies j = (j ≤ receiverCount) × Filled begun none (bookOf store .receivers) tallies j

@@ -9,9 +9,9 @@ use Rattle.road.specs.declared.Pair.{Pair}
 use Rattle.road.specs.Reach.{pairOf}
 use Rattle.road.specs.Pairs.{Mild}
 use Rattle.road.proofs.Pairs.{pair-bounded}
 use Rattle.ledger.specs.Ledger.{heardBy, heardFrom}
-use Rattle.ledger.proofs.afresh.hear.Statement.{statement}
-use Rattle.ledger.proofs.afresh.hear.Tie as tie
+use Rattle.afresh.proofs.hear.Statement.{statement}
+use Rattle.afresh.proofs.hear.Tie as tie
 
 -- somebody is in the seat
 used : (c : tie.Else1) → c .before .before .before .before .args .t .seat .used ≡ true

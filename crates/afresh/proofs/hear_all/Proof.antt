@@ -8,10 +8,10 @@ use mathlib.Core.Option.{none}
 use Rattle.screen.specs.Screen.{wallsOf}
 use Rattle.road.specs.Reach.{pairOf}
 use Rattle.store.specs.Store.{receiverCount}
 use Rattle.ledger.specs.Ledger.{begun, heardFrom}
 use Rattle.ledger.proofs.Mapped.{Filled, filled-none, filled-next, filled-all}
-use Rattle.ledger.proofs.afresh.hear_all.Statement.{statement}
-use Rattle.ledger.proofs.afresh.hear_all.Tie as tie
+use Rattle.afresh.proofs.hear_all.Statement.{statement}
+use Rattle.afresh.proofs.hear_all.Tie as tie
 
 abbrev Inv-loop : tie.InvT-loop
 Inv-loop steps walls s sent tallies next₀ j₀ next j = (j ≤ receiverCount) × Filled (heardFrom (pairOf (wallsOf walls)) s) (begun none) tallies next j

@@ -11,12 +11,12 @@ use Rattle.road.specs.Reach.{pairOf}
 use Rattle.road.proofs.Pairs.{pair-bounded}
 use Rattle.store.specs.Store.{sourceCount, bookOf}
 use Rattle.store.proofs.Laws.{sound-book}
-use Rattle.ledger.specs.declared.afresh.Tally.{Tally}
+use Rattle.ledger.specs.declared.Tally.{Tally}
 use Rattle.ledger.specs.Lists.{present}
 use Rattle.ledger.specs.Ledger.{begun, heardAt, heardAll}
 use Rattle.ledger.proofs.Tallies.{AllCounted, counted-begun, counted-next, counted-ready, heard-begun, heard-next, heard-over}
-use Rattle.ledger.proofs.afresh.reckon.Statement.{statement}
-use Rattle.ledger.proofs.afresh.reckon.Tie as tie
+use Rattle.afresh.proofs.reckon.Statement.{statement}
+use Rattle.afresh.proofs.reckon.Tie as tie
 
 -- with the sources from slot i on they come to what all sources make of them; and no sum is too large
 record Reckoning (walls store : List ℕ) (ts : List Tally) (i : ℕ) : Type 0 where

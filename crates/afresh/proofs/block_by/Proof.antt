@@ -1,10 +1,10 @@
 -- `block_by` by cases, as the definition. Assumes nothing.
 use mathlib.Core.Path.{sym, ap}
 use borrow.Author.Needs.{needs}
-use Rattle.ledger.specs.declared.afresh.Block.{Block}
+use Rattle.ledger.specs.declared.Block.{Block}
 use Rattle.ledger.specs.Ledger.{orBlock}
-use Rattle.ledger.proofs.afresh.block_by.Statement.{statement}
-use Rattle.ledger.proofs.afresh.block_by.Tie as tie
+use Rattle.afresh.proofs.block_by.Statement.{statement}
+use Rattle.afresh.proofs.block_by.Tie as tie
 
 enum-told : tie.Need-enum-told
 enum-told c = search needs

@@ -1,0 +1,2 @@
+-- What a round of all accounts afresh settles.
+pub mod Settled
