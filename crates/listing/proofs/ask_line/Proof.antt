@@ -7,9 +7,8 @@ use borrow.Author.Needs.{needs}
 use denote.Ref.{now}
 use Rattle.text.specs.Text.{decimal}
 use Rattle.listing.specs.Listing.{twoDigits, levelText, askLine}
-use Rattle.text.proofs.Decimal.{length-count}
 use Rattle.text.proofs.Writing.{Part, room, next, ends}
-use Rattle.listing.proofs.Writing.{no-room, whole-line}
+use Rattle.listing.proofs.Writing.{no-room, counted, whole-line}
 use Rattle.listing.proofs.ask_line.Statement.{statement}
 use Rattle.listing.proofs.ask_line.Tie as tie
 
@@ -36,17 +35,13 @@ start₄ c = start₃ (c .before .before .before .before)
 abbrev front : ℕ → ℕ → List ℕ
 front n slot = decimal n ++ (32 ∷ 82 ∷ twoDigits slot)
 
-counted : (c : tie.After-put-decimal) → let a = start₁ c .args in
+begun : (c : tie.After-put-decimal) → let a = start₁ c .args in
     Part 0 64 20 (decimal (a .n)) (now (a .out)) (c .put-decimal .result) (c .put-decimal .last .0)
-counted c = record {
-  space = c .before .before .if1 .left;
-  wrote = c .put-decimal .ensures;
-  most = length-count (start₁ c .args .n) (start₁ c .fits .n .fits);
-}
+begun c = counted (start₁ c .fits .n .fits) (c .before .before .if1 .left) (c .put-decimal .ensures)
 
 marked : (c : tie.After-put-mark) → let a = start₂ c .args in
     Part 0 64 24 (front (a .n) (a .slot)) (now (a .out)) (c .put-mark .result) (c .put-mark .last .0)
-marked c = next (counted (c .before .before .before .before .before)) 4 (omega arith) (32 ∷ 82 ∷ twoDigits (start₂ c .args .slot)) _ _ (omega arith) (c .put-mark .ensures)
+marked c = next (begun (c .before .before .before .before .before)) 4 (omega arith) (32 ∷ 82 ∷ twoDigits (start₂ c .args .slot)) _ _ (omega arith) (c .put-mark .ensures)
 
 day : (c : tie.After-put-level) → let a = start₃ c .args in
     Part 0 64 36 (front (a .n) (a .slot) ++ (32 ∷ levelText (a .den))) (now (a .out)) (c .put-level .result) (c .put-level .last .0)
@@ -64,7 +59,7 @@ slice-aggregate-put-mark : tie.Need-slice-aggregate-put-mark
 slice-aggregate-put-mark c = search needs
 
 put-mark-requires : tie.Need-put-mark-requires
-put-mark-requires c κs = room (counted (c .before .before .before .before)) 4 (omega arith)
+put-mark-requires c κs = room (begun (c .before .before .before .before)) 4 (omega arith)
 
 put-level-requires : tie.Need-put-level-requires
 put-level-requires c κs = room (marked (c .before .before .before)) 21 (omega arith)

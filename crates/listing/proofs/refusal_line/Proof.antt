@@ -10,9 +10,8 @@ use Rattle.answer.specs.Table.{numberOf}
 use Rattle.text.specs.Text.{decimal}
 use Rattle.listing.specs.Listing.{twoDigits, refusalLine}
 use Rattle.text.specs.Text.{written}
-use Rattle.text.proofs.Decimal.{length-count}
 use Rattle.text.proofs.Writing.{Wrote, Part, room, next}
-use Rattle.listing.proofs.Writing.{no-room, whole-line}
+use Rattle.listing.proofs.Writing.{no-room, counted, whole-line}
 use Rattle.listing.proofs.refusal_line.Statement.{statement}
 use Rattle.listing.proofs.refusal_line.Tie as tie
 
@@ -30,13 +29,9 @@ abbrev start₂ : tie.After-put-mark → tie.Start
 start₂ c = start₁ (c .before .before .before .before .before .before)
 
 -- the line so far
-counted : (c : tie.After-put-decimal) → let a = start₁ c .args in
+begun : (c : tie.After-put-decimal) → let a = start₁ c .args in
     Part 0 64 20 (decimal (a .n)) (now (a .out)) (c .put-decimal .result) (c .put-decimal .last .0)
-counted c = record {
-  space = c .before .before .if1 .left;
-  wrote = c .put-decimal .ensures;
-  most = length-count (start₁ c .args .n) (start₁ c .fits .n .fits);
-}
+begun c = counted (start₁ c .fits .n .fits) (c .before .before .if1 .left) (c .put-decimal .ensures)
 
 marked : (c : tie.After-put-mark) → let a = start₂ c .args in
     Part 0 64 24 (decimal (a .n) ++ (32 ∷ 69 ∷ twoDigits (numberOf (a .why)))) (now (a .out)) (c .put-mark .result) (c .put-mark .last .0)
@@ -44,7 +39,7 @@ marked c =
     let d = c .before .before .before .before .before .before in
     let text : ℕ → List ℕ = λ x. 32 ∷ 69 ∷ twoDigits x in
     let told : Wrote (d .put-decimal .result) (text (c .before .number .result)) (d .put-decimal .last .0) (c .put-mark .result) (c .put-mark .last .0) = c .put-mark .ensures in
-    next (counted d) 4 (omega arith) (text (numberOf (start₂ c .args .why))) _ _ (omega arith)
+    next (begun d) 4 (omega arith) (text (numberOf (start₂ c .args .why))) _ _ (omega arith)
     (told ∙ ap (λ (x : ℕ). written (d .put-decimal .result) (text x) (d .put-decimal .last .0)) (c .before .number .ensures))
 
 slice-aggregate-put-mark : tie.Need-slice-aggregate-put-mark
@@ -57,7 +52,7 @@ cast-put-mark : tie.Need-cast-put-mark
 cast-put-mark c = search needs
 
 put-mark-requires : tie.Need-put-mark-requires
-put-mark-requires c κs = room (counted (c .before .before .before .before .before)) 4 (omega arith)
+put-mark-requires c κs = room (begun (c .before .before .before .before .before)) 4 (omega arith)
 
 slice-aggregate-put-text : tie.Need-slice-aggregate-put-text
 slice-aggregate-put-text c = search needs
