@@ -21,12 +21,12 @@ use Rattle.store.specs.Store.{lastSource, lastReceiver, lastWall, Book, book, d
 use Rattle.store.proofs.Laws.{many-sources, sound-book, book-bytes, sound-source, sound-held, sound-wall}
 use Rattle.calls.specs.declared.Answer.{Answer}
 use Rattle.ledger.specs.Lists.{omap, present, every, firstBar, weigh}
-use Rattle.ledger.specs.Changes.{Change, follow, barOf, coming, going, renewing}
-use Rattle.calls.specs.Calls.{Step, refuse, tell, change, allow, intoFree, fromUsed, unlessBarred, unlessLate}
+use Rattle.ledger.specs.Changes.{Change, follow, barOf, exchange, renewing}
+use Rattle.calls.specs.Calls.{Step, refuse, tell, change, allow, fromUsed, unlessBarred, unlessLate}
 use Rattle.calls.specs.Calls.{pairIn, followed, changeSource, placeSource, withdrawSource, placeReceiver, withdrawReceiver, changeWall, placeWall, withdrawWall, askReceiver, told}
 use Rattle.road.proofs.Judged.{slot-allowed}
 use Rattle.ledger.proofs.Rounds.{and-both}
-use Rattle.calls.proofs.Rounded.{KeepsSound, coming-sound, going-sound, renewing-sound}
+use Rattle.calls.proofs.Rounded.{KeepsSound, exchange-sound, renewing-sound}
 use Rattle.calls.proofs.Sums.{never, weigh-sound}
 
 -- ---- a book that a store can hold, or no change
@@ -39,10 +39,6 @@ Keep (change b) = SoundBook b
 keep-allowed : (v : Verdict) (k : Step) → (v ≡ Allowed → Keep k) → Keep (allow v k)
 keep-allowed Allowed k f = f refl
 keep-allowed (Barring r) k f = tt
-
-keep-free : {A : Type 0} (o : Option A) (k : Step) → (o ≡ none → Keep k) → Keep (intoFree o k)
-keep-free none k f = f refl
-keep-free (some a) k f = tt
 
 keep-used : {A : Type 0} (o : Option A) (k : A → Step) → ((a : A) → Keep (k a)) → Keep (fromUsed o k)
 keep-used none k f = tt
@@ -90,8 +86,11 @@ module _ (b : Book) (h : SoundBook b) where
       f (moved-sound b (follow c) (c .fits) h t (λ x st r. (st .0, k x (st .1) r)))
 
   -- after which source slot i holds o; after which wall slot k does
-  changed : (c : Change) → KeepsSound c → (i : ℕ) (o : Option Source) → ((a : Source) → o ≡ some a → SourceStands a) → Keep (changeSource c i o b)
-  changed c k i o f = all-followed c k (λ rs. book (set (b .sources) i o) rs (b .walls)) (λ m. sound-source (book (b .sources) (map (omap (follow c)) (b .receivers)) (b .walls)) i o m f)
+  source-changed : (i : ℕ) (o : Option Source) → ((a : Source) → o ≡ some a → SourceStands a) → Keep (changeSource i o b)
+  source-changed i o f =
+      let c = exchange (pairIn b) (getD (b .sources) i none) o in
+      all-followed c (exchange-sound (pairIn b) (getD (b .sources) i none) o) (λ rs. book (set (b .sources) i o) rs (b .walls))
+      (λ m. sound-source (book (b .sources) (map (omap (follow c)) (b .receivers)) (b .walls)) i o m f)
 
   wall-changed : (k : ℕ) (o : Option Wall) → ((a : Wall) → o ≡ some a → WallStands a) → Keep (changeWall k o b)
   wall-changed k o f =
@@ -103,22 +102,19 @@ module _ (b : Book) (h : SoundBook b) where
   unfolding placeSource
   source-in i s n =
       keep-allowed (slotVerdict lastSource i (sourceVerdict s)) _ λ v.
-      keep-free (getD (b .sources) i none) _ λ w.
-      changed (coming (pairIn b) s) (coming-sound (pairIn b) s) i (some s)
-      (λ (a : Source) e. (let same : s ≡ a = cc in subst SourceStands same (slot-allowed lastSource i (sourceVerdict s) v .1, n)))
+      source-changed i (some s) (λ (a : Source) e. (let same : s ≡ a = cc in subst SourceStands same (slot-allowed lastSource i (sourceVerdict s) v .1, n)))
 
   pub source-out : (i : ℕ) → Keep (withdrawSource i b)
   unfolding withdrawSource
   source-out i =
       keep-allowed (slotVerdict lastSource i Allowed) _ λ v.
       keep-used (getD (b .sources) i none) _ λ s.
-      changed (going (pairIn b) s) (going-sound (pairIn b) s) i none (λ (a : Source) e. never cc)
+      source-changed i none (λ (a : Source) e. never cc)
 
   pub receiver-in : (j : ℕ) (r : Receiver) → Keep (placeReceiver j r b)
   unfolding placeReceiver
   receiver-in j r =
       keep-allowed (slotVerdict lastReceiver j (receiverVerdict r)) _ λ v.
-      keep-free (getD (b .receivers) j none) _ λ w.
       keep-unbarred (firstBar (λ (s : Source). pairIn b s r) 0 (b .sources)) _ λ o.
       sound-held b j (some (weigh (pairIn b) (present (b .sources)) r)) h
       (λ (a : Held) e. (
@@ -140,7 +136,6 @@ module _ (b : Book) (h : SoundBook b) where
   unfolding placeWall
   wall-in k w =
       keep-allowed (slotVerdict lastWall k (wallVerdict w)) _ λ v.
-      keep-free (getD (b .walls) k none) _ λ f.
       wall-changed k (some w) (λ (a : Wall) e. (let same : w ≡ a = cc in subst WallStands same (slot-allowed lastWall k (wallVerdict w) v .1)))
 
   pub wall-out : (k : ℕ) → Keep (withdrawWall k b)

@@ -1,33 +1,27 @@
 -- What the first pass of a round tells of a change: its bar, whether all receivers can follow, and the seats to write.
 -- Assumes nothing.
 use mathlib.Core.Path.{_≡_, refl, sym, ap, ap₂, _∙_, subst}
-use mathlib.Core.Bool.{Bool, true, false, not, _&&_}
+use mathlib.Core.Bool.{Bool, true, false, not}
 use mathlib.Core.Option.{Option, none, some}
 use mathlib.Core.List.{List, [], _∷_, map}
-use Prim.Native.Nat.{ℕ, zero, suc, _-_}
+use Prim.Native.Nat.{ℕ, zero, suc}
 use native.Mathlib.Omega.{arith}
-use native.Mathlib.Nat.{sub-le}
 use lib.ListN.{length, getD, length-map}
-use borrow.Author.Tests.{le-leb}
 use Rattle.answer.specs.declared.Refusal.{Refusal}
 use Rattle.answer.specs.declared.Refusal.the-variants.{Damaged}
 use Rattle.screen.specs.declared.Wall.{Wall}
 use Rattle.road.specs.declared.Source.{Source}
-use Rattle.road.specs.declared.Shares.{Shares}
 use Rattle.road.specs.Reach.{pairOf}
-use Rattle.road.specs.Pairs.{Pairing, brought}
-use Rattle.store.specs.declared.Account.{Account}
+use Rattle.road.specs.Pairs.{Pairing, isHeard}
 use Rattle.store.specs.declared.Held.{Held}
 use Rattle.store.specs.declared.Seat.{Seat}
-use Rattle.level.specs.Level.{top}
-use Rattle.store.specs.Account.{sound, minusOf}
+use Rattle.store.specs.Account.{sound, covers}
 use Rattle.road.proofs.Pairs.{pair-bounded}
 use Rattle.store.specs.Store.{receiverCount, sourceSlots, Book, bookOf, bookBytes, HeldStands, SoundBook}
-use Rattle.store.proofs.Accounts.{sound-le}
 use Rattle.ledger.specs.declared.round.Stop.the-variants.{Nowhere, At}
 use Rattle.ledger.specs.declared.round.Round.{Round}
 use Rattle.ledger.specs.Lists.{omap, present, every}
-use Rattle.ledger.specs.Changes.{Change, follow, barOf, coming, going, renewing, changeBy}
+use Rattle.ledger.specs.Changes.{Change, follow, barOf, pairBy, exchange, renewing}
 use Rattle.ledger.specs.Ledger.{vacant, toSeat, Rounded, seated, StandingSeats}
 use Rattle.ledger.proofs.Entries.{stop-none, stop-some}
 use Rattle.ledger.proofs.Rounds.{false-true, and-both, seated-map}
@@ -73,22 +67,9 @@ not-back false false e = e
 abbrev pub KeepsSound : Change → Type 0
 KeepsSound c = (x : Held) → sound (x .sums) ≡ true → c .fits x ≡ true → sound (c .sums x) ≡ true
 
-less-sound : (a : Account) (h : Shares) → sound a ≡ true → sound (minusOf a h) ≡ true
-less-sound a h e =
-    let l = sound-le a e in
-    ap₂ _&&_ (ap₂ _&&_ (le-leb (a .day - h .day) top (omega (arith, l .0, sub-le (a .day) (h .day)))) (le-leb (a .evening - h .evening) top (omega (arith, l .1, sub-le (a .evening) (h .evening)))))
-    (le-leb (a .night - h .night) top (omega (arith, l .2, sub-le (a .night) (h .night))))
-
-module _ (pair : Pairing) (s : Source) where
-  pub coming-sound : KeepsSound (coming pair s)
-  coming-sound x e f = f
-
-  pub going-sound : KeepsSound (going pair s)
-  going-sound x e f = less-sound (x .sums) (brought (pair s (x .who))) e
-
-pub changes-sound : (ws : List Wall) (adding : Bool) (s : Source) → KeepsSound (changeBy ws adding s)
-changes-sound ws true s = coming-sound (pairOf ws) s
-changes-sound ws false s = going-sound (pairOf ws) s
+-- what there is room for stays in its bounds
+pub exchange-sound : (pair : Pairing) (goes comes : Option Source) → KeepsSound (exchange pair goes comes)
+exchange-sound pair goes comes x e f = and-both (covers (x .sums) _) _ (and-both (isHeard (pairBy pair goes (x .who))) _ f .1) .1
 
 -- a change of walls: a source a slot at most
 pub renewing-sound : (ws : List Wall) (S : List (Option Source)) → length S ≡ sourceSlots → KeepsSound (renewing (pairOf ws) (present S))

@@ -8,7 +8,7 @@ use lib.ListN.{length, getD, set}
 use lib.Dec.{eqb}
 use Rattle.answer.specs.declared.Refusal.{Refusal}
 use Rattle.answer.specs.Table.{numberBy, placeBy}
-use Rattle.answer.specs.declared.Refusal.the-variants.{Damaged, Taken, Vacant}
+use Rattle.answer.specs.declared.Refusal.the-variants.{Damaged, Vacant}
 use Rattle.screen.specs.declared.Wall.{Wall}
 use Rattle.road.specs.declared.Source.{Source}
 use Rattle.road.specs.declared.Receiver.{Receiver}
@@ -22,7 +22,7 @@ use Rattle.index.specs.Index.{ldenOf, lnightOf}
 use Rattle.store.specs.declared.Held.{Held}
 use Rattle.store.specs.Store.{lastSource, lastReceiver, lastWall, Book, book, damaged, bookOf, bookBytes, storeLength, clearedBytes}
 use Rattle.ledger.specs.Lists.{omap, present, every, firstBar, weigh}
-use Rattle.ledger.specs.Changes.{Change, follow, barOf, coming, going, renewing}
+use Rattle.ledger.specs.Changes.{Change, follow, barOf, exchange, renewing}
 use Rattle.calls.specs.declared.Answer.{Answer}
 use Rattle.calls.specs.declared.Answer.the-variants.{Done, Levels, Refused}
 
@@ -59,11 +59,6 @@ allow Allowed k = k
 allow (Barring r) k = refuse r
 
 module _ {A : Type 0} where
-  -- refusal 8: placing into a used slot
-  abbrev pub intoFree : Option A → Step → Step
-  intoFree none k = k
-  intoFree (some a) k = refuse Taken
-
   -- refusal 9: withdrawing or asking an unused slot
   abbrev pub fromUsed : Option A → (A → Step) → Step
   fromUsed none k = refuse Vacant
@@ -92,54 +87,57 @@ followed c after b =
     (unlessLate (every (c .fits) (present (b .receivers)))
     (change (after (map (omap (follow c)) (b .receivers)))))
 
--- a change of source slot i, which then holds o
-abbrev pub changeSource : Change → ℕ → Option Source → Book → Step
-changeSource c i o b = followed c (λ rs. book (set (b .sources) i o) rs (b .walls)) b
+-- ---- a slot that then holds o: whoever is in it goes, and whom o names comes, each there or not. To place is to let somebody come, to
+-- withdraw is to let somebody go that is there
 
-abbrev pub enterSource : ℕ → Source → Book → Step
-enterSource i s b = intoFree (getD (b .sources) i none) (changeSource (coming (pairIn b) s) i (some s) b)
+-- source slot i
+abbrev pub changeSource : ℕ → Option Source → Book → Step
+changeSource i o b = followed (exchange (pairIn b) (getD (b .sources) i none) o) (λ rs. book (set (b .sources) i o) rs (b .walls)) b
 
 unfoldable pub placeSource : ℕ → Source → Book → Step
-placeSource i s b = allow (slotVerdict lastSource i (sourceVerdict s)) (enterSource i s b)
+placeSource i s b = allow (slotVerdict lastSource i (sourceVerdict s)) (changeSource i (some s) b)
 
 abbrev pub leaveSource : ℕ → Book → Step
-leaveSource i b = fromUsed (getD (b .sources) i none) (λ s. changeSource (going (pairIn b) s) i none b)
+leaveSource i b = fromUsed (getD (b .sources) i none) (λ s. changeSource i none b)
 
 unfoldable pub withdrawSource : ℕ → Book → Step
 withdrawSource i b = allow (slotVerdict lastSource i Allowed) (leaveSource i b)
 
-abbrev pub enterReceiver : ℕ → Receiver → Book → Step
-enterReceiver j r b =
-    intoFree (getD (b .receivers) j none)
-    (unlessBarred (firstBar (λ (s : Source). pairIn b s r) 0 (b .sources))
-    (change (book (b .sources) (set (b .receivers) j (some (weigh (pairIn b) (present (b .sources)) r))) (b .walls))))
+-- receiver slot j: the account of whoever comes is worked out afresh
+abbrev pub barHere : Book → Option Receiver → Option Refusal
+barHere b none = none
+barHere b (some r) = firstBar (λ (s : Source). pairIn b s r) 0 (b .sources)
+
+abbrev pub changeReceiver : ℕ → Option Receiver → Book → Step
+changeReceiver j o b =
+    unlessBarred (barHere b o)
+    (change (book (b .sources) (set (b .receivers) j (omap (weigh (pairIn b) (present (b .sources))) o)) (b .walls)))
 
 unfoldable pub placeReceiver : ℕ → Receiver → Book → Step
-placeReceiver j r b = allow (slotVerdict lastReceiver j (receiverVerdict r)) (enterReceiver j r b)
+placeReceiver j r b = allow (slotVerdict lastReceiver j (receiverVerdict r)) (changeReceiver j (some r) b)
 
 abbrev pub leaveReceiver : ℕ → Book → Step
-leaveReceiver j b = fromUsed (getD (b .receivers) j none) (λ x. change (book (b .sources) (set (b .receivers) j none) (b .walls)))
+leaveReceiver j b = fromUsed (getD (b .receivers) j none) (λ x. changeReceiver j none b)
 
 unfoldable pub withdrawReceiver : ℕ → Book → Step
 withdrawReceiver j b = allow (slotVerdict lastReceiver j Allowed) (leaveReceiver j b)
 
--- a change of wall slot k, which then holds o: every sum is worked out afresh among the walls that then stand
+-- wall slot k: every sum is worked out afresh among the walls that then stand
 abbrev pub changeWall : ℕ → Option Wall → Book → Step
 changeWall k o b =
     followed (renewing (pairOf (present (set (b .walls) k o))) (present (b .sources)))
     (λ rs. book (b .sources) rs (set (b .walls) k o)) b
 
-abbrev pub enterWall : ℕ → Wall → Book → Step
-enterWall k w b = intoFree (getD (b .walls) k none) (changeWall k (some w) b)
-
 unfoldable pub placeWall : ℕ → Wall → Book → Step
-placeWall k w b = allow (slotVerdict lastWall k (wallVerdict w)) (enterWall k w b)
+placeWall k w b = allow (slotVerdict lastWall k (wallVerdict w)) (changeWall k (some w) b)
 
 abbrev pub leaveWall : ℕ → Book → Step
 leaveWall k b = fromUsed (getD (b .walls) k none) (λ w. changeWall k none b)
 
 unfoldable pub withdrawWall : ℕ → Book → Step
 withdrawWall k b = allow (slotVerdict lastWall k Allowed) (leaveWall k b)
+
+-- ---- an ask changes nothing
 
 abbrev pub indicesAt : ℕ → Book → Step
 indicesAt j b =

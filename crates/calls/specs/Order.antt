@@ -6,7 +6,7 @@ use mathlib.Core.Bool.{false}
 use mathlib.Core.Option.{none, some}
 use lib.ListN.{getD, set}
 use Rattle.answer.specs.declared.Refusal.{Refusal}
-use Rattle.answer.specs.declared.Refusal.the-variants.{Damaged, Taken, Vacant}
+use Rattle.answer.specs.declared.Refusal.the-variants.{Damaged, Vacant}
 use Rattle.screen.specs.declared.Wall.{Wall}
 use Rattle.road.specs.declared.Source.{Source}
 use Rattle.road.specs.declared.Receiver.{Receiver}
@@ -17,7 +17,7 @@ use Rattle.road.specs.Judge.{sourceVerdict, receiverVerdict, wallVerdict, slotV
 use Rattle.store.specs.declared.Held.{Held}
 use Rattle.store.specs.Store.{lastSource, lastReceiver, lastWall, Book}
 use Rattle.ledger.specs.Lists.{present, every, firstBar}
-use Rattle.ledger.specs.Changes.{barOf, coming, renewing}
+use Rattle.ledger.specs.Changes.{Change, barOf, exchange, renewing}
 use Rattle.calls.specs.Calls.{refuse, pairIn, placeSource, placeReceiver, placeWall, withdrawSource, withdrawReceiver, withdrawWall, askReceiver}
 
 -- the verdict on slot and fields, and the first pair that is barred
@@ -30,35 +30,33 @@ receiverJudged j r = slotVerdict lastReceiver j (receiverVerdict r)
 abbrev pub wallJudged : ℕ → Wall → Verdict
 wallJudged k w = slotVerdict lastWall k (wallVerdict w)
 
+-- a source that comes into slot i, whoever is in it goes
+abbrev pub coming : ℕ → Source → Book → Change
+coming i s b = exchange (pairIn b) (getD (b .sources) i none) (some s)
+
+-- in each, the slot may be used: placing exchanges then
 pub record SourceOrder (i : ℕ) (s : Source) (b : Book) : Type 0 where
   -- 5, 6 and 7
   pub fields-first : (why : Refusal) → sourceJudged i s ≡ Refused why → placeSource i s b ≡ refuse why
-  -- 8
-  pub then-taken : (a : Source) → sourceJudged i s ≡ Allowed → getD (b .sources) i none ≡ some a → placeSource i s b ≡ refuse Taken
-  -- 10 to 14
-  pub then-barred : (why : Refusal) → sourceJudged i s ≡ Allowed → getD (b .sources) i none ≡ none
-      → barOf (coming (pairIn b) s) (b .receivers) ≡ some why → placeSource i s b ≡ refuse why
+  -- 10 to 14, of the source that comes
+  pub then-barred : (why : Refusal) → sourceJudged i s ≡ Allowed → firstBar (λ (x : Held). pairIn b s (x .who)) 0 (b .receivers) ≡ some why
+      → placeSource i s b ≡ refuse why
   -- the late 1
-  pub then-late : sourceJudged i s ≡ Allowed → getD (b .sources) i none ≡ none
-      → barOf (coming (pairIn b) s) (b .receivers) ≡ none → every (coming (pairIn b) s .fits) (present (b .receivers)) ≡ false
-      → placeSource i s b ≡ refuse Damaged
+  pub then-late : sourceJudged i s ≡ Allowed → firstBar (λ (x : Held). pairIn b s (x .who)) 0 (b .receivers) ≡ none
+      → every (coming i s b .fits) (present (b .receivers)) ≡ false → placeSource i s b ≡ refuse Damaged
 
 pub record ReceiverOrder (j : ℕ) (r : Receiver) (b : Book) : Type 0 where
   -- 5
   pub fields-first : (why : Refusal) → receiverJudged j r ≡ Refused why → placeReceiver j r b ≡ refuse why
-  -- 8
-  pub then-taken : (a : Held) → receiverJudged j r ≡ Allowed → getD (b .receivers) j none ≡ some a → placeReceiver j r b ≡ refuse Taken
   -- 10 to 14
-  pub then-barred : (why : Refusal) → receiverJudged j r ≡ Allowed → getD (b .receivers) j none ≡ none
-      → firstBar (λ (s : Source). pairIn b s r) 0 (b .sources) ≡ some why → placeReceiver j r b ≡ refuse why
+  pub then-barred : (why : Refusal) → receiverJudged j r ≡ Allowed → firstBar (λ (s : Source). pairIn b s r) 0 (b .sources) ≡ some why
+      → placeReceiver j r b ≡ refuse why
 
 pub record WallOrder (k : ℕ) (w : Wall) (b : Book) : Type 0 where
   -- 5
   pub fields-first : (why : Refusal) → wallJudged k w ≡ Refused why → placeWall k w b ≡ refuse why
-  -- 8
-  pub then-taken : (a : Wall) → wallJudged k w ≡ Allowed → getD (b .walls) k none ≡ some a → placeWall k w b ≡ refuse Taken
   -- 10 to 14, of every pair among the walls that would stand
-  pub then-barred : (why : Refusal) → wallJudged k w ≡ Allowed → getD (b .walls) k none ≡ none
+  pub then-barred : (why : Refusal) → wallJudged k w ≡ Allowed
       → barOf (renewing (pairOf (present (set (b .walls) k (some w)))) (present (b .sources))) (b .receivers) ≡ some why → placeWall k w b ≡ refuse why
 
 -- 9, of a slot that is allowed

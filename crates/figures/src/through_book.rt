@@ -51,6 +51,16 @@ fn twice(store: &mut [u8], names: &[u8]) {
     told(names, 3, book::ask(store, 5));
 }
 
+// Into the road's slot the same road 100 m away, then one that is refused, then the first one again: the latest that was accepted stands.
+fn in_place(store: &mut [u8], names: &[u8]) {
+    place(store, names, 0, 0, 110000, 1000);
+    told(names, 1, book::ask(store, 5));
+    place(store, names, 2, 0, 100357, 1000);
+    told(names, 3, book::ask(store, 5));
+    place(store, names, 4, 0, 102500, 1000);
+    told(names, 5, book::ask(store, 5));
+}
+
 // The longest piece at 25 m, and the nearest road, beside the road that stands.
 fn limits(store: &mut [u8], names: &[u8]) {
     place(store, names, 0, 2, 102500, 1262);
@@ -59,10 +69,9 @@ fn limits(store: &mut [u8], names: &[u8]) {
     place(store, names, 3, 3, 100358, 100);
 }
 
-// A slot that is not used, and one that is.
+// A slot that is not used.
 fn slots(store: &mut [u8], names: &[u8]) {
     told(names, 0, book::ask(store, 6));
-    place(store, names, 1, 0, 102500, 1000);
 }
 
 // All of them.
@@ -76,9 +85,13 @@ pub fn all() {
         &mut store,
         b"book, source 1: \n25 m, twice, in the book: \nbook, source 1 out: \n25 m, once again, in the book: \n",
     );
+    in_place(
+        &mut store,
+        b"book, source 0 at 100 m: \n100 m, in the book: \nbook, source 0 at dx 357: \n100 m still, in the book: \nbook, source 0 at 25 m: \n25 m, in the book: \n",
+    );
     limits(
         &mut store,
         b"book, 25 m, l 1262: \nbook, 25 m, l 1263: \nbook, dx 357: \nbook, dx 358, l 100: \n",
     );
-    slots(&mut store, b"book, ask 6: \nbook, source 0 again: \n");
+    slots(&mut store, b"book, ask 6: \n");
 }

@@ -1,51 +1,52 @@
--- Accounts worked out afresh, for any pairing: what a source more or less makes of one, and that order does not matter.
+-- Accounts worked out afresh, for any pairing: what an exchange makes of one, and that order does not matter.
 -- Assumes nothing.
-use mathlib.Core.Path.{_≡_}
+use mathlib.Core.Path.{_≡_, refl}
 use mathlib.Core.Bool.{true}
+use mathlib.Core.Option.{Option, none, some}
 use mathlib.Core.List.{List, _∷_, List·Permᴰ}
-use Prim.Native.Nat.{ℕ, _+_}
-use native.Mathlib.Nat.{add-comm, add-sub-cancel-left}
+use Prim.Native.Nat.{ℕ, zero, suc, _+_, _-_}
 use native.Mathlib.Omega.{arith}
+use lib.Dec.{leb}
 use borrow.Author.Tests.{le-leb}
 use Rattle.road.specs.declared.Source.{Source}
 use Rattle.road.specs.declared.Receiver.{Receiver}
-use Rattle.road.specs.Pairs.{Pairing, brought, shareIn}
+use Rattle.road.specs.declared.Pair.the-variants.{Heard}
+use Rattle.road.specs.Pairs.{Pairing, noShares, brought, shareIn}
 use Rattle.store.specs.Account.{covers}
-use Rattle.ledger.specs.Lists.{sumOf, weigh}
-use Rattle.ledger.specs.Changes.{follow, coming, going}
+use Rattle.ledger.specs.Lists.{present, sumOf, weigh}
+use Rattle.ledger.specs.Changes.{follow, pairBy, exchange}
 use Rattle.calls.proofs.Sums.{and-both}
 use Rattle.history.proofs.Slots.{perm-sum}
 
+-- nobody brings nothing
+no-share : (k : ℕ) → shareIn (Heard noShares) k ≡ 0
+no-share zero = refl
+no-share (suc zero) = refl
+no-share (suc (suc zero)) = refl
+no-share (suc (suc (suc k))) = refl
+
 module _ (pair : Pairing) where
-  module _ (s : Source) (ss : List Source) (r : Receiver) where
-    -- the sum of a period without s
-    abbrev rest : ℕ → ℕ
-    rest p = sumOf (λ s. shareIn (pair s r) p) ss
+  module _ (r : Receiver) (l : List (Option Source)) where
+    -- the sum of a period with whom a slot holds
+    abbrev sum : Option Source → ℕ → ℕ
+    sum o k = sumOf (λ s. shareIn (pair s r) k) (present (o ∷ l))
 
-    pub more-is : follow (coming pair s) (weigh pair ss r) ≡ weigh pair (s ∷ ss) r
-    more-is = λ i. record {
-      who = r;
-      sums = record {
-        day = add-comm (rest 0) (shareIn (pair s r) 0) i;
-        evening = add-comm (rest 1) (shareIn (pair s r) 1) i;
-        night = add-comm (rest 2) (shareIn (pair s r) 2) i;
-      };
-    }
+    sum-is : (o : Option Source) (k : ℕ) → sum o k ≡ shareIn (pairBy pair o r) k + sum none k
+    sum-is none k = omega (arith, no-share k)
+    sum-is (some s) k = refl
 
-    pub less-is : follow (going pair s) (weigh pair (s ∷ ss) r) ≡ weigh pair ss r
-    less-is = λ i. record {
-      who = r;
-      sums = record {
-        day = add-sub-cancel-left (shareIn (pair s r) 0) (rest 0) i;
-        evening = add-sub-cancel-left (shareIn (pair s r) 1) (rest 1) i;
-        night = add-sub-cancel-left (shareIn (pair s r) 2) (rest 2) i;
-      };
-    }
+    module _ (goes comes : Option Source) where
+      sum-exchanged : (k : ℕ) → sum goes k - shareIn (pairBy pair goes r) k + shareIn (pairBy pair comes r) k ≡ sum comes k
+      sum-exchanged k = omega (arith, sum-is goes k, sum-is comes k)
 
-    pub covers-is : covers (weigh pair (s ∷ ss) r .sums) (brought (pair s r)) ≡ true
-    covers-is =
-        and-both (and-both (le-leb _ (shareIn (pair s r) 0 + rest 0) (omega arith)) (le-leb _ (shareIn (pair s r) 1 + rest 1) (omega arith)))
-        (le-leb _ (shareIn (pair s r) 2 + rest 2) (omega arith))
+      pub exchange-is : follow (exchange pair goes comes) (weigh pair (present (goes ∷ l)) r) ≡ weigh pair (present (comes ∷ l)) r
+      exchange-is = λ i. record { who = r; sums = record { day = sum-exchanged 0 i; evening = sum-exchanged 1 i; night = sum-exchanged 2 i } }
+
+    pub covers-is : (goes : Option Source) → covers (weigh pair (present (goes ∷ l)) r .sums) (brought (pairBy pair goes r)) ≡ true
+    covers-is goes = and-both (and-both (below 0) (below 1)) (below 2)
+      where
+        below : (k : ℕ) → leb (shareIn (pairBy pair goes r) k) (sum goes k) ≡ true
+        below k = le-leb (shareIn (pairBy pair goes r) k) (sum goes k) (omega (arith, sum-is goes k))
 
   pub weigh-perm : {l m : List Source} → List·Permᴰ l m → (r : Receiver) → weigh pair l r ≡ weigh pair m r
   weigh-perm π r = λ i. record {

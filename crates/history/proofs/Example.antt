@@ -1,38 +1,29 @@
--- The 25 m case as a history: place, ask, a refused placing, withdraw. What it is answered, computed from the table of figures and the theorems.
+-- The 25 m case as a history: place, ask, move the road away in its slot, ask, withdraw, ask. What it is answered, computed from the table
+-- of figures and the theorems.
 -- Assumes the laws of the store, given as a parameter.
 use mathlib.Core.Path.{_≡_, refl, sym, ap, subst, _∙_}
-use mathlib.Core.Bool.{false}
-use mathlib.Core.Option.{none, some}
+use mathlib.Core.Option.{some}
 use mathlib.Core.List.{List, [], _∷_, List·Memᴰ·head, List·Permᴰ, Permᴰ·refl}
-use Prim.Native.Nat.{ℕ, _+_, _-_, _<_}
+use Prim.Native.Nat.{ℕ, _+_, _-_}
 use native.Mathlib.Omega.{arith}
-use lib.ListN.{getD}
-use Rattle.answer.specs.declared.Refusal.the-variants.{Taken}
 use Rattle.level.specs.Table.{table, firstQuarter, secondQuarter, thirdQuarter, fourthQuarter}
 use Rattle.level.specs.Level.{energyOf, levelOf, upTo, decades, loudnessOf}
 use Rattle.road.specs.declared.Source.{Source}
 use Rattle.road.specs.declared.Pair.{Pair}
-use Rattle.road.specs.declared.Verdict.the-variants.{Allowed}
 use Rattle.road.specs.Pairs.{isHeard, shareIn}
-use Rattle.road.specs.Judge.{sourceVerdict, slotVerdict}
 use Rattle.road.specs.Figures.{road, home}
-use Rattle.road.proofs.Figures.{near-allowed, far-allowed, home-allowed, near-pair}
+use Rattle.road.proofs.Figures.{near-allowed, far-allowed, home-allowed, near-pair, far-pair}
 use Rattle.index.specs.Index.{ldenOf, lnightOf}
 use Rattle.index.specs.declared.Index.the-variants.{Quiet, Tenths}
 use Rattle.store.specs.Store.{lastSource, lastReceiver, sourceSlots, receiverSlots, wallSlots}
 use Rattle.calls.specs.declared.Answer.{Answer}
-use Rattle.calls.specs.declared.Answer.the-variants.{Levels, Refused}
+use Rattle.calls.specs.declared.Answer.the-variants.{Levels}
 use Rattle.ledger.specs.Lists.{present}
-use Rattle.calls.specs.Calls.{told, placeSource}
-use Rattle.store.proofs.Laws.{many-sources}
 use Rattle.history.specs.History.{standingReceivers, Placing, source, receiver, calls, Rebuilds, Call, PlaceSource, WithdrawSource, PlaceReceiver}
-use Rattle.history.specs.History.{Ask, storeAfter, bookAfter, answerTo, Real, accepted, kept, lastAt, inSlots, standingSource, standingReceiver}
-use Rattle.history.specs.History.{standingSources, standingWall, standingWalls, levelsOf, Hears, Rule}
-use Rattle.calls.proofs.Answered.{by-taken}
-use Rattle.history.proofs.Slots.{in-slots-at}
-use Rattle.history.proofs.Gates.{slot-passes}
+use Rattle.history.specs.History.{Ask, answerTo, Real, kept, lastAt, inSlots, standingSource, standingReceiver}
+use Rattle.history.specs.History.{standingSources, standingWall, standingWalls, levelsOf, Rule}
 use Rattle.history.proofs.Laws.{StoreLaws, store-laws}
-use Rattle.history.proofs.History.{wallAfter, sourceAfter, seatAfter, on-store, accepts-by-rule, holds-what-stands}
+use Rattle.history.proofs.History.{wallAfter, sourceAfter, seatAfter, accepts-by-rule, holds-what-stands}
 use Rattle.history.proofs.Rebuild.{keeps, rebuilt}
 
 -- ---- the two roads, and what the first brings to the point
@@ -47,16 +38,21 @@ far = road 110000
 abbrev given : ℕ → ℕ → ℕ → Answer
 given a b c = Levels (ldenOf (a + 0) (b + 0) (c + 0)) (lnightOf (c + 0))
 
-energies : given (energyOf 6028) (energyOf 6028) (energyOf 5028) ≡ Levels (Tenths 616) (Tenths 503)
+near-energies : given (energyOf 6028) (energyOf 6028) (energyOf 5028) ≡ Levels (Tenths 616) (Tenths 503)
 unfolding energyOf loudnessOf levelOf upTo decades table firstQuarter secondQuarter thirdQuarter fourthQuarter
-energies = refl
+near-energies = refl
 
-heard : Hears [] near home
-heard = ap isHeard near-pair
+far-energies : given (energyOf 4293) (energyOf 4348) (energyOf 3403) ≡ Levels (Tenths 448) (Tenths 340)
+unfolding energyOf loudnessOf levelOf upTo decades table firstQuarter secondQuarter thirdQuarter fourthQuarter
+far-energies = refl
 
 -- L_DEN 61.6, L_Night 50.3
 near-levels : levelsOf [] (near ∷ []) home ≡ Levels (Tenths 616) (Tenths 503)
-near-levels = ap (λ (p : Pair). given (shareIn p 0) (shareIn p 1) (shareIn p 2)) near-pair ∙ energies
+near-levels = ap (λ (p : Pair). given (shareIn p 0) (shareIn p 1) (shareIn p 2)) near-pair ∙ near-energies
+
+-- L_DEN 44.8, L_Night 34.0
+far-levels : levelsOf [] (far ∷ []) home ≡ Levels (Tenths 448) (Tenths 340)
+far-levels = ap (λ (p : Pair). given (shareIn p 0) (shareIn p 1) (shareIn p 2)) far-pair ∙ far-energies
 
 silence : levelsOf [] [] home ≡ Levels Quiet Quiet
 unfolding loudnessOf
@@ -67,15 +63,15 @@ silence = refl
 abbrev placed : List Call
 placed = PlaceSource 0 near ∷ PlaceReceiver 5 home ∷ []
 
+-- into the used slot
+abbrev moved : List Call
+moved = PlaceSource 0 far ∷ Ask 5 ∷ placed
+
 abbrev withdrawn : List Call
-withdrawn = WithdrawSource 0 ∷ PlaceSource 0 far ∷ Ask 5 ∷ placed
+withdrawn = WithdrawSource 0 ∷ moved
 
 abbrev elsewhere : List Placing
 elsewhere = receiver record { slot = lastReceiver; entry = home } ∷ source record { slot = lastSource; entry = near } ∷ []
-
-drops : (c : Call) (h k : List Call) → kept h ≡ k → accepted (answerTo h c) ≡ false → kept (c ∷ h) ≡ k
-unfolding kept
-drops c h k q e = rw (e, q)
 
 module _ (laws : StoreLaws) where
   -- a call that meets the rule is kept
@@ -83,18 +79,6 @@ module _ (laws : StoreLaws) where
   unfolding standingSource standingReceiver standingWall
   by-rule h k real q c n =
       keeps c h k q (accepts-by-rule laws h real c .1 (subst (λ l. Rule (wallAfter l) (sourceAfter l) (seatAfter l) c) (sym q) n))
-
-  -- a used slot is taken
-  refuses : (h k : List Call) → Real h → kept h ≡ k → (i : ℕ) (s t : Source) → i < sourceSlots → sourceVerdict s ≡ Allowed
-      → sourceAfter k i ≡ some t → answerTo h (PlaceSource i s) ≡ Refused Taken
-  unfolding standingSource placeSource
-  refuses h k real q i s t low ok e =
-      let H = holds-what-stands laws h real in
-      let there : getD (bookAfter h .sources) i none ≡ some t =
-      ap (λ l. getD l i none) (H .sources) ∙ in-slots-at sourceSlots (standingSource h) none i low ∙ ap (λ l. sourceAfter l i) q ∙ e in
-      let may : slotVerdict lastSource i (sourceVerdict s) ≡ Allowed = slot-passes lastSource i (sourceVerdict s) (omega (arith, many-sources), ok) in
-      ap (λ (o : Answer × List ℕ). o .0)
-      (on-store (placeSource i s) (storeAfter h) (bookAfter h) (H .undamaged) refl ∙ ap (told (storeAfter h)) (by-taken _ _ _ t may there))
 
   -- what an ask is told
   tells : (h k : List Call) → Real h → kept h ≡ k → seatAfter k 5 ≡ some home
@@ -108,8 +92,8 @@ module _ (laws : StoreLaws) where
   unfolding kept lastAt inSlots sourceSlots receiverSlots wallSlots
   placed-kept =
       by-rule (PlaceReceiver 5 home ∷ []) (PlaceReceiver 5 home ∷ []) (tt, tt)
-      (by-rule [] [] tt refl (PlaceReceiver 5 home) (omega arith, home-allowed, refl, tt))
-      (PlaceSource 0 near) (omega arith, near-allowed, refl, (heard, tt))
+      (by-rule [] [] tt refl (PlaceReceiver 5 home) (omega arith, home-allowed, tt))
+      (PlaceSource 0 near) (omega arith, near-allowed, (ap isHeard near-pair, tt))
 
   pub asked : answerTo placed (Ask 5) ≡ Levels (Tenths 616) (Tenths 503)
   unfolding lastAt inSlots sourceSlots wallSlots
@@ -119,21 +103,23 @@ module _ (laws : StoreLaws) where
   unfolding lastAt receiverSlots
   asked-kept = by-rule placed placed (refl, (tt, tt)) placed-kept (Ask 5) (omega arith, refl)
 
-  pub taken : answerTo (Ask 5 ∷ placed) (PlaceSource 0 far) ≡ Refused Taken
-  unfolding lastAt sourceSlots
-  taken = refuses (Ask 5 ∷ placed) (Ask 5 ∷ placed) (tt, (refl, (tt, tt))) asked-kept 0 far near (omega arith) far-allowed refl
+  moved-kept : kept moved ≡ moved
+  unfolding lastAt inSlots sourceSlots receiverSlots wallSlots
+  moved-kept =
+      by-rule (Ask 5 ∷ placed) (Ask 5 ∷ placed) (tt, (refl, (tt, tt))) asked-kept (PlaceSource 0 far) (omega arith, far-allowed, (ap isHeard far-pair, tt))
 
-  -- all but the refused call
-  pub withdrawn-kept : kept withdrawn ≡ WithdrawSource 0 ∷ Ask 5 ∷ placed
+  -- the shares of the road that was there are gone
+  pub asked-moved : answerTo moved (Ask 5) ≡ Levels (Tenths 448) (Tenths 340)
+  unfolding lastAt inSlots sourceSlots wallSlots
+  asked-moved = tells moved moved (refl, (tt, (refl, (tt, tt)))) moved-kept refl ∙ far-levels
+
+  withdrawn-kept : kept withdrawn ≡ withdrawn
   unfolding lastAt sourceSlots
-  withdrawn-kept =
-      by-rule (PlaceSource 0 far ∷ Ask 5 ∷ placed) (Ask 5 ∷ placed) (refl, (tt, (refl, (tt, tt))))
-      (drops (PlaceSource 0 far) (Ask 5 ∷ placed) (Ask 5 ∷ placed) asked-kept (ap accepted taken))
-      (WithdrawSource 0) (omega arith, refl)
+  withdrawn-kept = by-rule moved moved (refl, (tt, (refl, (tt, tt)))) moved-kept (WithdrawSource 0) (omega arith, refl)
 
   pub asked-again : answerTo withdrawn (Ask 5) ≡ Levels Quiet Quiet
   unfolding lastAt inSlots sourceSlots wallSlots
-  asked-again = tells withdrawn (WithdrawSource 0 ∷ Ask 5 ∷ placed) (tt, (refl, (tt, (refl, (tt, tt))))) withdrawn-kept refl ∙ silence
+  asked-again = tells withdrawn withdrawn (tt, (refl, (tt, (refl, (tt, tt))))) withdrawn-kept refl ∙ silence
 
   -- ---- the same two into other slots, and the source first
 
@@ -167,8 +153,8 @@ module _ (laws : StoreLaws) where
 pub placed-then-asked : answerTo placed (Ask 5) ≡ Levels (Tenths 616) (Tenths 503)
 placed-then-asked = asked store-laws
 
-pub placed-twice : answerTo (Ask 5 ∷ placed) (PlaceSource 0 far) ≡ Refused Taken
-placed-twice = taken store-laws
+pub moved-then-asked : answerTo moved (Ask 5) ≡ Levels (Tenths 448) (Tenths 340)
+moved-then-asked = asked-moved store-laws
 
 pub withdrawn-then-asked : answerTo withdrawn (Ask 5) ≡ Levels Quiet Quiet
 withdrawn-then-asked = asked-again store-laws

@@ -23,17 +23,17 @@ use Rattle.store.specs.Store.{WallStands, SoundBook}
 use Rattle.store.proofs.Laws.{many-sources, many-receivers, many-walls}
 use Rattle.calls.specs.declared.Answer.{Answer}
 use Rattle.ledger.specs.Lists.{omap, present, every, firstBar, weigh, All}
-use Rattle.ledger.specs.Changes.{follow, barOf, coming, going, together, renewing}
+use Rattle.ledger.specs.Changes.{Change, follow, barOf, pairBy, exchange, together, renewing}
 use Rattle.calls.specs.Calls.{used, Step, tell, allow, fromUsed}
-use Rattle.calls.specs.Calls.{placeSource, withdrawSource, placeReceiver, withdrawReceiver, changeWall, placeWall, withdrawWall, askReceiver}
+use Rattle.calls.specs.Calls.{changeSource, placeSource, withdrawSource, placeReceiver, withdrawReceiver, changeWall, placeWall, withdrawWall, askReceiver}
 use Rattle.road.proofs.Judged.{source-by, receiver-by, wall-by}
 use Rattle.calls.proofs.Sums.{HearsAll, all-map, and-both, bars-pass, never, weigh-sound}
 use Rattle.history.specs.History.{Call, PlaceSource, WithdrawSource, PlaceReceiver, WithdrawReceiver, PlaceWall, WithdrawWall, Ask}
 use Rattle.history.specs.History.{RealCall, accepted, sourceMove, receiverMove, wallMove, inSlots, levelsOf, Hears, AllHear, Rule}
-use Rattle.history.proofs.Slots.{all-both, all-set, all-at, every-all, every-omap, omap-set, omap-twice, omap-unused}
-use Rattle.history.proofs.Slots.{used-omap, perm-put, perm-take, in-slots-length, in-slots-at, moved}
-use Rattle.history.proofs.Accounts.{more-is, less-is, covers-is, weigh-perm}
-use Rattle.history.proofs.Gates.{Fine, past-free, past-used, past-bars, past-late, bars-none, bars-apart, bars-omap}
+use Rattle.history.proofs.Slots.{all-both, all-set, all-at, every-all, every-omap, omap-set, omap-twice}
+use Rattle.history.proofs.Slots.{used-omap, perm-set, perm-at, in-slots-length, in-slots-at, moved}
+use Rattle.history.proofs.Accounts.{exchange-is, covers-is, weigh-perm}
+use Rattle.history.proofs.Gates.{Fine, past-used, past-bars, past-followed, bars-none, bars-apart, bars-omap}
 use Rattle.history.proofs.Gates.{each-together, together-each, slot-passes, past-fields}
 
 all-here : {A : Type 0} (P : A → Type 0) → ((a : A) → P a) → (l : List A) → All P l
@@ -123,92 +123,85 @@ module _ (wall-slot : ℕ → Option Wall) (source-slot : ℕ → Option Source)
   seat-is : (j : ℕ) → j ≤ lastReceiver → getD (fill W S R .receivers) j none ≡ omap afresh (seat j)
   seat-is j h = fill-at W S R j ∙ ap (omap afresh) (in-slots-at receiverSlots seat none j (omega (arith, many-receivers)))
 
-  -- ---- a source comes
+  -- ---- a source goes and another comes, each there or not: slot i then holds o
 
-  module _ (i : ℕ) (s : Source) (low : i < length S) (free : getD S i none ≡ none) where
-    entered : (r : Receiver) → follow (coming among s) (afresh r) ≡ weigh among (present (set S i (some s))) r
-    entered r = more-is among s (present S) r ∙ sym (weigh-perm among (perm-put S i s low free) r)
+  module _ (i : ℕ) (o : Option Source) (low : i < length S) where
+    abbrev goes : Option Source
+    goes = getD S i none
 
-    room : every (coming among s .fits) (present (fill W S R .receivers)) ≡ true
-    room =
-        every-omap afresh (coming among s .fits) R
-        ∙ every-all (λ r. coming among s .fits (afresh r)) (present R) (all-here (λ r. coming among s .fits (afresh r) ≡ true) fits (present R))
+    abbrev exchanged : Change
+    exchanged = exchange among goes o
+
+    -- whoever comes is heard
+    abbrev HeardHere : Type 0
+    HeardHere = All (λ r. isHeard (pairBy among o r) ≡ true) (present R)
+
+    before : (r : Receiver) → afresh r ≡ weigh among (present (goes ∷ set S i none)) r
+    before = weigh-perm among (perm-at S i low)
+
+    after : (r : Receiver) → follow exchanged (afresh r) ≡ weigh among (present (set S i o)) r
+    after r = ap (follow exchanged) (before r) ∙ exchange-is among r (set S i none) goes o ∙ sym (weigh-perm among (perm-set o S i low) r)
+
+    -- whoever goes was heard, its shares are in the sums, and no sum passes the most that it may be
+    all-exchange : All (HearsAll among (present S)) (present R) → every (exchanged .fits) (present (fill W S R .receivers)) ≡ true
+    all-exchange p =
+        every-omap afresh (exchanged .fits) R
+        ∙ every-all (λ r. exchanged .fits (afresh r)) (present R) (all-map (HearsAll among (present S)) (λ r. exchanged .fits (afresh r) ≡ true) fits (present R) p)
       where
-        fits : (r : Receiver) → coming among s .fits (afresh r) ≡ true
-        fits r =
-            ap (λ (x : Held). sound (x .sums)) (entered r)
-            ∙ weigh-sound among (pair-bounded (present W)) (set S i (some s)) r (length-set S i (some s) ∙ in-slots-length sourceSlots source-slot)
+        heard : (r : Receiver) → HearsAll among (present S) r → (a : Option Source) → getD S i none ≡ a → isHeard (pairBy among a r) ≡ true
+        heard r q none e = refl
+        heard r q (some s) e = all-at (λ s. Hears (present W) s r) S i s q e
+
+        fits : (r : Receiver) → HearsAll among (present S) r → exchanged .fits (afresh r) ≡ true
+        fits r q =
+            and-both (heard r q goes refl)
+            (and-both (ap (λ (x : Held). covers (x .sums) (brought (pairBy among goes r))) (before r) ∙ covers-is among r (set S i none) goes)
+            (ap (λ (x : Held). sound (x .sums)) (after r)
+            ∙ weigh-sound among (pair-bounded (present W)) (set S i o) r (length-set S i o ∙ in-slots-length sourceSlots source-slot)))
+
+    source-then : All SourceStands (present (o ∷ [])) → HeardHere → Standing W S R → Standing W (set S i o) R
+    source-then ok hears p = record {
+      wall-slots = p .wall-slots;
+      source-slots = length-set S i o ∙ p .source-slots;
+      seats = p .seats;
+      walls = p .walls;
+      sources = all-set SourceStands S i o ok (p .sources);
+      receivers = p .receivers;
+      heard = all-both (λ r. isHeard (pairBy among o r) ≡ true) (λ r h a. all-set (λ s. Hears (present W) s r) S i o (here r o h) a) (present R) hears (p .heard);
+    }
+      where
+        here : (r : Receiver) (a : Option Source) → isHeard (pairBy among a r) ≡ true → All (λ s. Hears (present W) s r) (present (a ∷ []))
+        here r none h = tt
+        here r (some s) h = (h, tt)
+
+    change-source : (N : Type 0) (Q : Answer → Type 0) (P : Book → Type 0) → Standing W S R → (N → HeardHere) → (HeardHere → N × P (fill W (set S i o) R))
+        → Fine N Q P (changeSource i o (fill W S R))
+    change-source N Q P p need give =
+        let tries : Held → Pair = λ x. pairBy among o (x .who) in
+        past-followed N Q P exchanged (λ rs. book (set S i o) rs W) (fill W S R)
+        (λ n. bars-omap afresh tries 0 R ∙ bars-none (pairBy among o) 0 R (need n)) (all-exchange (p .heard))
+        (λ bars. subst (λ rs. N × P (book (set S i o) rs W)) (sym (omap-twice afresh (follow exchanged) _ R after))
+        (give (bars-pass (pairBy among o) 0 R (sym (bars-omap afresh tries 0 R) ∙ bars))))
 
   pub place-source : (i : ℕ) (s : Source) → Standing W S R → Leads (PlaceSource i s) (placeSource i s (fill W S R))
   unfolding placeSource
   place-source i s p =
-      let who : Held → Pair = λ x. among s (x .who) in
       past-fields _ _ _ lastSource i (sourceVerdict s) _ (source-by s) (λ n. (omega (arith, n .0, many-sources), n .1)) λ ok.
-      past-free _ _ _ (getD S i none) _ (λ n. source-slot-is i (ok .0) ∙ n .2) λ free.
-      past-bars _ _ _ (firstBar who 0 (fill W S R .receivers)) _ (bars-apart _ 0 _)
-      (λ n. bars-omap afresh who 0 R ∙ bars-none (λ r. among s r) 0 R (n .3)) λ bars.
       let low : i < length S = omega (arith, ok .0, p .source-slots, many-sources) in
-      let hears = bars-pass (λ r. among s r) 0 R (sym (bars-omap afresh who 0 R) ∙ bars) in
-      let all = all-both (λ r. Hears (present W) s r) (λ r h a. all-set (λ s. Hears (present W) s r) S i (some s) (h, tt) a) (present R) hears (p .heard) in
-      past-late _ _ _ _ _ (room i s low free) (
-        (omega (arith, ok .0, many-sources), ok .1, sym (source-slot-is i (ok .0)) ∙ free, hears),
-        (
-          ap (λ rs. book (set S i (some s)) rs W) (omap-twice afresh (follow (coming among s)) _ R (entered i s low free)),
-          λ real.
-              record {
-                wall-slots = p .wall-slots;
-                source-slots = length-set S i (some s) ∙ p .source-slots;
-                seats = p .seats;
-                walls = p .walls;
-                sources = all-set SourceStands S i (some s) ((ok .1, real), tt) (p .sources);
-                receivers = p .receivers;
-                heard = all;
-              },
-        ),
+      change-source i (some s) low _ _ _ p (λ n. n .2) λ hears. (
+        (omega (arith, ok .0, many-sources), ok .1, hears),
+        (refl, λ real. source-then i (some s) low ((ok .1, real), tt) hears p),
       )
-
-  -- ---- a source goes
-
-  module _ (i : ℕ) (s : Source) (there : getD S i none ≡ some s) where
-    gone : (r : Receiver) → afresh r ≡ weigh among (s ∷ present (set S i none)) r
-    gone = weigh-perm among (perm-take S i s there)
-
-    left : (r : Receiver) → follow (going among s) (afresh r) ≡ weigh among (present (set S i none)) r
-    left r = ap (follow (going among s)) (gone r) ∙ less-is among s (present (set S i none)) r
-
-    returns : All (HearsAll among (present S)) (present R) → every (going among s .fits) (present (fill W S R .receivers)) ≡ true
-    returns p =
-        every-omap afresh (going among s .fits) R
-        ∙ every-all (λ r. going among s .fits (afresh r)) (present R)
-        (all-map (HearsAll among (present S)) (λ r. going among s .fits (afresh r) ≡ true)
-        (λ r q. and-both (all-at (λ s. Hears (present W) s r) S i s q there)
-        (ap (λ (x : Held). covers (x .sums) (brought (among s r))) (gone r) ∙ covers-is among s (present (set S i none)) r))
-        (present R) p)
-
-    nobody-bars : barOf (going among s) (fill W S R .receivers) ≡ none
-    nobody-bars = bars-none (λ (x : Held). going among s .tried (x .who)) 0 (fill W S R .receivers) (all-here (λ (x : Held). isHeard (going among s .tried (x .who)) ≡ true) (λ x. refl) (present (fill W S R .receivers)))
 
   pub withdraw-source : (i : ℕ) → Standing W S R → Leads (WithdrawSource i) (withdrawSource i (fill W S R))
   unfolding withdrawSource
   withdraw-source i p =
       past-fields _ _ _ lastSource i Allowed _ tt (λ n. (omega (arith, n .0, many-sources), refl)) λ ok.
       past-used _ _ _ (getD S i none) _ (λ n. ap used (source-slot-is i (ok .0)) ∙ n .1) λ s there.
-      past-bars _ _ _ (barOf (going among s) (fill W S R .receivers)) _ (bars-apart _ 0 _) (λ n. nobody-bars i s there) λ bars.
-      past-late _ _ _ _ _ (returns i s there (p .heard)) (
+      let low : i < length S = omega (arith, ok .0, p .source-slots, many-sources) in
+      change-source i none low _ _ _ p (λ n. all-here (λ r. true ≡ true) (λ r. refl) (present R)) λ hears. (
         (omega (arith, ok .0, many-sources), ap used (sym (source-slot-is i (ok .0)) ∙ there)),
-        (
-          ap (λ rs. book (set S i none) rs W) (omap-twice afresh (follow (going among s)) _ R (left i s there)),
-          λ real.
-              record {
-                wall-slots = p .wall-slots;
-                source-slots = length-set S i none ∙ p .source-slots;
-                seats = p .seats;
-                walls = p .walls;
-                sources = all-set SourceStands S i none tt (p .sources);
-                receivers = p .receivers;
-                heard = all-map (HearsAll among (present S)) _ (λ r q. all-set (λ s. Hears (present W) s r) S i none tt q) (present R) (p .heard);
-              },
-        ),
+        (refl, λ real. source-then i none low tt hears p),
       )
 
   -- ---- a receiver comes, goes or is asked
@@ -217,10 +210,9 @@ module _ (wall-slot : ℕ → Option Wall) (source-slot : ℕ → Option Source)
   unfolding placeReceiver
   place-receiver j r p =
       past-fields _ _ _ lastReceiver j (receiverVerdict r) _ (receiver-by r) (λ n. (omega (arith, n .0, many-receivers), n .1)) λ ok.
-      past-free _ _ _ (getD (fill W S R .receivers) j none) _ (λ n. seat-is j (ok .0) ∙ ap (omap afresh) (n .2)) λ free.
-      past-bars _ _ _ (firstBar (λ (s : Source). among s r) 0 S) _ (bars-apart _ 0 S) (λ n. bars-none (λ s. among s r) 0 S (n .3)) λ bars.
+      past-bars _ _ _ (firstBar (λ (s : Source). among s r) 0 S) _ (bars-apart _ 0 S) (λ n. bars-none (λ s. among s r) 0 S (n .2)) λ bars.
       let hears = bars-pass (λ s. among s r) 0 S bars in (
-        (omega (arith, ok .0, many-receivers), ok .1, omap-unused afresh (seat j) (sym (seat-is j (ok .0)) ∙ free), hears),
+        (omega (arith, ok .0, many-receivers), ok .1, hears),
         (
           ap (λ rs. book S rs W) (sym (omap-set afresh R j (some r))),
           λ real.
@@ -309,10 +301,8 @@ module _ (wall-slot : ℕ → Option Wall) (source-slot : ℕ → Option Source)
     change-wall : (N : Type 0) (Q : Answer → Type 0) (P : Book → Type 0) → (N → HeardThen) → (HeardThen → N × P (fill (set W k o) S R))
         → Fine N Q P (changeWall k o (fill W S R))
     change-wall N Q P need give =
-        past-bars N Q P (barOf (renewing amongThen (present S)) (fill W S R .receivers)) _ (bars-apart _ 0 _) (λ n. no-bars (need n)) λ bars.
-        let got : N × P (book S (map (omap (follow (renewing amongThen (present S)))) (fill W S R .receivers)) (set W k o)) =
-        subst (λ rs. N × P (book S rs (set W k o))) (sym renewed) (give (heard-then bars)) in
-        past-late N Q P _ _ all-fit got
+        past-followed N Q P (renewing amongThen (present S)) (λ rs. book S rs (set W k o)) (fill W S R) (λ n. no-bars (need n)) all-fit
+        (λ bars. subst (λ rs. N × P (book S rs (set W k o))) (sym renewed) (give (heard-then bars)))
 
     stand-then : All WallStands (present (o ∷ [])) → HeardThen → Standing W S R → Standing (set W k o) S R
     stand-then ok hears p = record {
@@ -329,9 +319,8 @@ module _ (wall-slot : ℕ → Option Wall) (source-slot : ℕ → Option Source)
   unfolding placeWall
   place-wall k w p =
       past-fields _ _ _ lastWall k (wallVerdict w) _ (wall-by w) (λ n. (omega (arith, n .0, many-walls), n .1)) λ ok.
-      past-free _ _ _ (getD W k none) _ (λ n. wall-slot-is k (ok .0) ∙ n .2) λ free.
-      change-wall k (some w) _ _ _ (λ n. n .3) λ hears. (
-        (omega (arith, ok .0, many-walls), ok .1, sym (wall-slot-is k (ok .0)) ∙ free, hears),
+      change-wall k (some w) _ _ _ (λ n. n .2) λ hears. (
+        (omega (arith, ok .0, many-walls), ok .1, hears),
         (refl, λ real. stand-then k (some w) (ok .1, tt) hears p),
       )
 

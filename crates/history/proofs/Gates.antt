@@ -20,12 +20,12 @@ use Rattle.road.specs.declared.Verdict.{Verdict}
 use Rattle.road.specs.declared.Verdict.the-variants.{Allowed, Refused as Barring}
 use Rattle.road.specs.Judge.{slotVerdict}
 use Rattle.road.proofs.Judged.{slot-allowed, ByFields, slot-by, by-apart}
+use Rattle.store.specs.declared.Held.{Held}
 use Rattle.store.specs.Store.{Book}
 use Rattle.calls.specs.declared.Answer.{Answer}
-use Rattle.ledger.specs.Lists.{omap, orBar, firstBar}
-use Rattle.ledger.specs.Changes.{onward, together}
-use Rattle.calls.specs.Calls.{used, Step, refuse, tell, change, allow, intoFree, fromUsed, unlessBarred}
-use Rattle.calls.specs.Calls.{unlessLate}
+use Rattle.ledger.specs.Lists.{omap, present, every, orBar, firstBar}
+use Rattle.ledger.specs.Changes.{Change, follow, barOf, onward, together}
+use Rattle.calls.specs.Calls.{used, Step, refuse, tell, change, allow, fromUsed, unlessBarred, unlessLate, followed}
 use Rattle.road.specs.Pairs.{Pairing, isHeard}
 use Rattle.calls.proofs.Sums.{heardAll, HearsAll, never}
 
@@ -41,10 +41,6 @@ module _ (N : Type 0) (Q : Answer → Type 0) (P : Book → Type 0) where
   past-verdict Allowed k d n f = f refl
   past-verdict (Barring r) k d n f = (λ e. d (ap Barring e), λ x. let q = n x in never cc)
 
-  pub past-free : {A : Type 0} (o : Option A) (k : Step) → (N → o ≡ none) → (o ≡ none → Fine N Q P k) → Fine N Q P (intoFree o k)
-  past-free none k n f = f refl
-  past-free (some a) k n f = (λ e. never cc, λ x. let q = n x in never cc)
-
   pub past-used : {A : Type 0} (o : Option A) (k : A → Step) → (N → used o ≡ true)
       → ((a : A) → o ≡ some a → Fine N Q P (k a)) → Fine N Q P (fromUsed o k)
   past-used none k n f = (λ e. never cc, λ x. let q = n x in never cc)
@@ -54,7 +50,7 @@ module _ (N : Type 0) (Q : Answer → Type 0) (P : Book → Type 0) where
   past-bars none k d n f = f refl
   past-bars (some r) k d n f = (λ e. d (ap some e), λ x. let q = n x in never cc)
 
-  pub past-late : (t : Bool) (k : Step) → t ≡ true → Fine N Q P k → Fine N Q P (unlessLate t k)
+  past-late : (t : Bool) (k : Step) → t ≡ true → Fine N Q P k → Fine N Q P (unlessLate t k)
   past-late true k e f = f
   past-late false k e f = never cc
 
@@ -99,6 +95,13 @@ unfolding firstBar
 bars-omap f pair j [] = refl
 bars-omap f pair j (none ∷ l) = bars-omap f pair (suc j) l
 bars-omap f pair j (some a ∷ l) = ap (orBar j (pair (f a))) (bars-omap f pair (suc j) l)
+
+-- a change that all receivers can follow
+pub past-followed : (N : Type 0) (Q : Answer → Type 0) (P : Book → Type 0) (c : Change) (after : List (Option Held) → Book) (b : Book)
+    → (N → barOf c (b .receivers) ≡ none) → every (c .fits) (present (b .receivers)) ≡ true
+    → (barOf c (b .receivers) ≡ none → N × P (after (map (omap (follow c)) (b .receivers)))) → Fine N Q P (followed c after b)
+past-followed N Q P c after b heard fits give =
+    past-bars N Q P (barOf c (b .receivers)) _ (bars-apart _ 0 _) heard λ bars. past-late N Q P _ _ fits (give bars)
 
 -- all sources together are heard at a point where each is heard, and nowhere else
 module _ (pair : Pairing) (r : Receiver) where

@@ -1,4 +1,4 @@
--- The numbers that a call may be answered, for any store: 5 to 7 by slot and fields, 8 and 9 by the slot's use, 10 to 14 by the pairs, and 1.
+-- The numbers that a call may be answered, for any store: 5 to 7 by slot and fields, 9 by a slot that is free, 10 to 14 by the pairs, and 1.
 -- Assumes nothing.
 use mathlib.Core.Path.{refl}
 use mathlib.Core.Logic.{inl, inr}
@@ -22,10 +22,10 @@ use Rattle.road.specs.Judge.{sourceVerdict, receiverVerdict, wallVerdict, slotV
 use Rattle.road.proofs.Judged.{ByFields, source-by, receiver-by, wall-by, slot-by}
 use Rattle.store.specs.Store.{lastSource, lastReceiver, lastWall, Book, damaged, bookOf, storeLength, clearedBytes}
 use Rattle.ledger.specs.Lists.{present, every, firstBar}
-use Rattle.ledger.specs.Changes.{Change, barOf, coming, going, renewing}
+use Rattle.ledger.specs.Changes.{Change, barOf, exchange, renewing}
 use Rattle.calls.specs.declared.Answer.{Answer}
 use Rattle.calls.specs.declared.Answer.the-variants.{Done, Refused}
-use Rattle.calls.specs.Calls.{numberIn, Step, refuse, tell, change, allow, intoFree, fromUsed, unlessBarred, unlessLate, pairIn}
+use Rattle.calls.specs.Calls.{numberIn, Step, refuse, tell, change, allow, fromUsed, unlessBarred, unlessLate, pairIn}
 use Rattle.calls.specs.Calls.{placeSource, withdrawSource, placeReceiver, withdrawReceiver, placeWall, withdrawWall, askReceiver, told, onStore}
 use Rattle.calls.specs.Calls.{clearStore}
 use Rattle.history.specs.History.{Call, Clear, PlaceSource, WithdrawSource, PlaceReceiver, WithdrawReceiver, PlaceWall, WithdrawWall, Ask, perform}
@@ -44,19 +44,15 @@ Given (change b) = Unit {0}
 
 given-fields : (v : Verdict) (k : Step) → ByFields v → Given k → Given (allow v k)
 given-fields Allowed k n g = g
-given-fields (Barring why) k n g = inr (inr (n .0, omega (arith, n .1)))
-
-given-free : {A : Type 0} (o : Option A) (k : Step) → Given k → Given (intoFree o k)
-given-free none k g = g
-given-free (some a) k g = inr (inr (omega arith, omega arith))
+given-fields (Barring why) k n g = inr (inr ((n .0, omega (arith, n .1)), λ e. omega (arith, n .1)))
 
 given-used : {A : Type 0} (o : Option A) (k : A → Step) → ((a : A) → Given (k a)) → Given (fromUsed o k)
-given-used none k g = inr (inr (omega arith, omega arith))
+given-used none k g = inr (inr ((omega arith, omega arith), λ e. omega arith))
 given-used (some a) k g = g a
 
 given-pairs : (o : Option Refusal) (k : Step) → ByPair o → Given k → Given (unlessBarred o k)
 given-pairs none k n g = g
-given-pairs (some why) k n g = inr (inr (omega (arith, n .0), n .1))
+given-pairs (some why) k n g = inr (inr ((omega (arith, n .0), n .1), λ e. omega (arith, n .0)))
 
 given-late : (t : Bool) (k : Step) → Given k → Given (unlessLate t k)
 given-late true k g = g
@@ -75,20 +71,19 @@ module _ (b : Book) where
   unfolding placeSource
   source-in i s =
       given-fields (slotVerdict lastSource i (sourceVerdict s)) _ (slot-by lastSource i (sourceVerdict s) (source-by s))
-      (given-free (getD (b .sources) i none) _ (given-followed (coming (pairIn b) s) _))
+      (given-followed (exchange (pairIn b) (getD (b .sources) i none) (some s)) _)
 
   source-out : (i : ℕ) → Given (withdrawSource i b)
   unfolding withdrawSource
   source-out i =
       given-fields (slotVerdict lastSource i Allowed) _ (slot-by lastSource i Allowed tt)
-      (given-used (getD (b .sources) i none) _ λ s. given-followed (going (pairIn b) s) _)
+      (given-used (getD (b .sources) i none) _ λ s. given-followed (exchange (pairIn b) (getD (b .sources) i none) none) _)
 
   receiver-in : (j : ℕ) (r : Receiver) → Given (placeReceiver j r b)
   unfolding placeReceiver
   receiver-in j r =
       given-fields (slotVerdict lastReceiver j (receiverVerdict r)) _ (slot-by lastReceiver j (receiverVerdict r) (receiver-by r))
-      (given-free (getD (b .receivers) j none) _
-      (given-pairs (firstBar (λ (s : Source). pairIn b s r) 0 (b .sources)) _ (bars-by _ 0 (b .sources)) tt))
+      (given-pairs (firstBar (λ (s : Source). pairIn b s r) 0 (b .sources)) _ (bars-by _ 0 (b .sources)) tt)
 
   receiver-out : (j : ℕ) → Given (withdrawReceiver j b)
   unfolding withdrawReceiver
@@ -99,7 +94,7 @@ module _ (b : Book) where
   unfolding placeWall
   wall-in k w =
       given-fields (slotVerdict lastWall k (wallVerdict w)) _ (slot-by lastWall k (wallVerdict w) (wall-by w))
-      (given-free (getD (b .walls) k none) _ (given-followed (renewing (pairOf (present (set (b .walls) k (some w)))) (present (b .sources))) _))
+      (given-followed (renewing (pairOf (present (set (b .walls) k (some w)))) (present (b .sources))) _)
 
   wall-out : (k : ℕ) → Given (withdrawWall k b)
   unfolding withdrawWall

@@ -22,7 +22,7 @@ use Rattle.history.specs.History.{Call, answerTo, Real, accepted, kept, 
 use Rattle.history.specs.History.{standingReceiver, standingWall, standingSources, standingReceivers, standingWalls, levelsOf, SumsOf, Hears, AllHear}
 use Rattle.history.specs.History.{Put, Placing, source, receiver, wall, asCall, calls, sourcesIn, receiversIn, wallsIn, WallsFirst, entriesOf, Apart}
 use Rattle.history.specs.History.{Rule, Rebuilds, AllAccepted, Rebuilt, inPlace, anew}
-use Rattle.history.proofs.Slots.{all-perm, in-slots-length, entering, entering-free, entering-perm, entering-at, in-place-entries}
+use Rattle.history.proofs.Slots.{all-perm, in-slots-length, entering, entering-perm, entering-at, in-place-entries}
 use Rattle.history.proofs.Slots.{in-place-apart}
 use Rattle.history.proofs.Accounts.{weigh-perm}
 use Rattle.history.proofs.Filled.{ReceiverStands}
@@ -184,7 +184,6 @@ module _ (laws : StoreLaws) where
       one-more (source x) ks g′ ih (
         g .source-slots .0,
         g .sources .0 .0,
-        placed-source ks (ih .1) (x .slot) ∙ entering-free (x .slot) (sourcesIn ks) (g .source-slots .1),
         subst (λ (pair : Pairing). All (λ r. isHeard (pair (x .entry) r) ≡ true) (standingReceivers (calls ks))) (placed-pairs ks (ih .1) (g′ .wall-slots))
             (all-perm (Hears ws (x .entry)) (Permᴰ·symm (placed-receivers ks (ih .1) (g′ .receiver-slots))) hears),
       )
@@ -195,7 +194,6 @@ module _ (laws : StoreLaws) where
       one-more (receiver x) ks g′ ih (
         g .receiver-slots .0,
         g .receivers .0,
-        placed-receiver ks (ih .1) (x .slot) ∙ entering-free (x .slot) (receiversIn ks) (g .receiver-slots .1),
         subst (λ (pair : Pairing). All (λ s. isHeard (pair s (x .entry)) ≡ true) (standingSources (calls ks))) (placed-pairs ks (ih .1) (g′ .wall-slots))
             (all-perm (λ s. Hears ws s (x .entry)) (Permᴰ·symm (placed-sources ks (ih .1) (g′ .source-slots))) (g .heard .0)),
       )
@@ -206,7 +204,6 @@ module _ (laws : StoreLaws) where
       one-more (wall x) ks g′ ih (
         g .wall-slots .0,
         g .walls .0,
-        placed-wall ks (ih .1) (x .slot) ∙ entering-free (x .slot) (wallsIn ks) (g .wall-slots .1),
         all-perm _ (Permᴰ·symm (placed-receivers ks (ih .1) (g′ .receiver-slots))) (no-pair _ (receiversIn ks) (g .walls-first .1)),
       )
 

@@ -11,7 +11,7 @@ use native.Mathlib.Nat.{le-of-suc-le-suc, not-suc-le-zero}
 use native.Mathlib.Omega.{arith}
 use lib.Dec.{eqb}
 use lib.ListN.{length, getD, set, replicate, length-set, length-replicate, getD-replicate}
-use lib.Seq.{getD-set-same, getD-set-other, ext-getD}
+use lib.Seq.{getD-set-same, getD-set-other, set-getD, ext-getD}
 use borrow.Author.Tests.{eqb-true, eqb-false, eq-eqb, ne-eqb}
 use Rattle.ledger.specs.Lists.{omap, present, every, sumOf, All}
 use Rattle.calls.specs.Calls.{used}
@@ -78,10 +78,6 @@ module _ {A B : Type 0} (f : A → B) where
   omap-twice g k (none ∷ l) e = ap (λ (t : List (Option B)). none ∷ t) (omap-twice g k l e)
   omap-twice g k (some a ∷ l) e = λ i. some (e a i) ∷ omap-twice g k l e i
 
-  pub omap-unused : (o : Option A) → omap f o ≡ none → o ≡ none
-  omap-unused none e = refl
-  omap-unused (some a) e = never cc
-
   pub used-omap : (o : Option A) → used (omap f o) ≡ used o
   used-omap none = refl
   used-omap (some a) = refl
@@ -89,20 +85,18 @@ module _ {A B : Type 0} (f : A → B) where
 -- ---- rearrangements and sums
 
 module _ {A : Type 0} where
-  pub perm-put : (l : List (Option A)) (i : ℕ) (a : A) → i < length l → getD l i none ≡ none → List·Permᴰ (present (set l i (some a))) (a ∷ present l)
-  perm-put [] i a h e = absurd (not-suc-le-zero h)
-  perm-put (none ∷ l) zero a h e = Permᴰ·refl (a ∷ present l)
-  perm-put (some b ∷ l) zero a h e = never cc
-  perm-put (none ∷ l) (suc i) a h e = perm-put l i a (le-of-suc-le-suc h) e
-  perm-put (some b ∷ l) (suc i) a h e =
-      List·Permᴰ·trans (List·Permᴰ·cons refl (perm-put l i a (le-of-suc-le-suc h) e)) (List·Permᴰ·swap refl refl)
+  -- slot i holds o: o, if it names anybody, and the others
+  pub perm-set : (o : Option A) (l : List (Option A)) (i : ℕ) → i < length l → List·Permᴰ (present (set l i o)) (present (o ∷ set l i none))
+  perm-set none l i h = Permᴰ·refl (present (set l i none))
+  perm-set (some a) [] i h = absurd (not-suc-le-zero h)
+  perm-set (some a) (x ∷ l) zero h = Permᴰ·refl (a ∷ present l)
+  perm-set (some a) (none ∷ l) (suc i) h = perm-set (some a) l i (le-of-suc-le-suc h)
+  perm-set (some a) (some b ∷ l) (suc i) h =
+      List·Permᴰ·trans (List·Permᴰ·cons refl (perm-set (some a) l i (le-of-suc-le-suc h))) (List·Permᴰ·swap refl refl)
 
-  pub perm-take : (l : List (Option A)) (i : ℕ) (a : A) → getD l i none ≡ some a → List·Permᴰ (present l) (a ∷ present (set l i none))
-  perm-take [] i a e = never cc
-  perm-take (none ∷ l) zero a e = never cc
-  perm-take (some b ∷ l) zero a e = let q : b ≡ a = cc in List·Permᴰ·cons q (Permᴰ·refl (present l))
-  perm-take (none ∷ l) (suc i) a e = perm-take l i a e
-  perm-take (some b ∷ l) (suc i) a e = List·Permᴰ·trans (List·Permᴰ·cons refl (perm-take l i a e)) (List·Permᴰ·swap refl refl)
+  -- and so does whoever is in it
+  pub perm-at : (l : List (Option A)) (i : ℕ) → i < length l → List·Permᴰ (present l) (present (getD l i none ∷ set l i none))
+  perm-at l i h = rw (set-getD l i none) at (perm-set (getD l i none) l i h)
 
   pub perm-sum : (f : A → ℕ) {l m : List A} → List·Permᴰ l m → sumOf f l ≡ sumOf f m
   perm-sum f List·Permᴰ·nil = refl
@@ -175,7 +169,7 @@ module _ {A : Type 0} where
   entering l = map (λ x. enter (x .slot) (x .entry)) l
 
   -- a slot that none of them takes is free
-  pub entering-free : (i : ℕ) (l : List (Put A)) → All (λ y. i ≢ y .slot) l → lastAt (entering l) i ≡ none
+  entering-free : (i : ℕ) (l : List (Put A)) → All (λ y. i ≢ y .slot) l → lastAt (entering l) i ≡ none
   unfolding lastAt
   entering-free i [] p = refl
   entering-free i (x ∷ l) p = rw (ne-eqb i (x .slot) (p .0)) (entering-free i l (p .1))
@@ -191,7 +185,7 @@ module _ {A : Type 0} where
       let free : getD S (x .slot) none ≡ none = in-slots-at n (lastAt (entering l)) none (x .slot) (p .0) ∙ entering-free (x .slot) l (p .1) in
       rw (← slots-moved n (enter (x .slot) (x .entry)) (entering l))
       (List·Permᴰ·trans
-      (perm-put S (x .slot) (x .entry) (omega (arith, p .0, in-slots-length n (lastAt (entering l)))) free)
+      (rw (ap (set S (x .slot)) (sym free) ∙ set-getD S (x .slot) none) at (perm-set (some (x .entry)) S (x .slot) (omega (arith, p .0, in-slots-length n (lastAt (entering l))))))
       (List·Permᴰ·cons refl (entering-perm n l (p .2))))
 
   -- each is found where it was placed

@@ -89,7 +89,7 @@ unfoldable pub kept : List Call → List Call
 kept [] = []
 kept (c ∷ h) = cond (accepted (answerTo h c)) (c ∷ kept h) (kept h)
 
--- what an accepted call means to the slots of one party: slot i is entered or left, all are left, or nobody moves
+-- what an accepted call means to the slots of one party: slot i is entered, whoever was in it, or left, all are left, or nobody moves
 pub data Move (A : Type 0) : Type 0 where
   enter : ℕ → A → Move A
   leave : ℕ → Move A
@@ -218,12 +218,11 @@ module _ (wall-slot : ℕ → Option Wall) (source-slot : ℕ → Option Source)
 
   abbrev pub Rule : Call → Type 0
   Rule Clear = Unit {0}
-  Rule (PlaceSource i s) = (i < sourceSlots) × (sourceVerdict s ≡ Allowed) × (source-slot i ≡ none) × All (λ r. Hears wallsNow s r) receiversNow
+  Rule (PlaceSource i s) = (i < sourceSlots) × (sourceVerdict s ≡ Allowed) × All (λ r. Hears wallsNow s r) receiversNow
   Rule (WithdrawSource i) = (i < sourceSlots) × (used (source-slot i) ≡ true)
-  Rule (PlaceReceiver j r) = (j < receiverSlots) × (receiverVerdict r ≡ Allowed) × (seat j ≡ none) × All (λ s. Hears wallsNow s r) sourcesNow
+  Rule (PlaceReceiver j r) = (j < receiverSlots) × (receiverVerdict r ≡ Allowed) × All (λ s. Hears wallsNow s r) sourcesNow
   Rule (WithdrawReceiver j) = (j < receiverSlots) × (used (seat j) ≡ true)
-  Rule (PlaceWall k w) =
-      (k < wallSlots) × (wallVerdict w ≡ Allowed) × (wall-slot k ≡ none) × AllHear (wallsThen k (some w)) sourcesNow receiversNow
+  Rule (PlaceWall k w) = (k < wallSlots) × (wallVerdict w ≡ Allowed) × AllHear (wallsThen k (some w)) sourcesNow receiversNow
   Rule (WithdrawWall k) = (k < wallSlots) × (used (wall-slot k) ≡ true) × AllHear (wallsThen k none) sourcesNow receiversNow
   Rule (Ask j) = (j < receiverSlots) × (used (seat j) ≡ true)
 
@@ -320,10 +319,10 @@ anew h =
     map source (inPlace 0 (inSlots sourceSlots (standingSource h)))
     ++ (map receiver (inPlace 0 (inSlots receiverSlots (standingReceiver h))) ++ map wall (inPlace 0 (inSlots wallSlots (standingWall h))))
 
--- ---- what numbers the book may answer: done 0, damage 1, and 5 to 14
+-- ---- what numbers the book may answer: done 0, damage 1, and 5 to 14 but not 8: a used slot is no reason to refuse
 
 abbrev pub BookNumber : ℕ → Type 0
-BookNumber n = (n ≡ 0) ⊎ ((n ≡ 1) ⊎ Between 5 14 n)
+BookNumber n = (n ≡ 0) ⊎ ((n ≡ 1) ⊎ (Between 5 14 n × (n ≢ 8)))
 
 -- ---- all together: for every history that code can make; the last ones, for any bytes at all
 

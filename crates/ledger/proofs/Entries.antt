@@ -8,18 +8,21 @@ use Prim.Native.Nat.{ℕ, _<_}
 use native.Mathlib.Omega.{arith}
 use lib.ListN.{getD}
 use Rattle.answer.specs.declared.Refusal.{Refusal}
+use Rattle.road.specs.declared.Verdict.the-variants.{Allowed}
+use Rattle.road.specs.Judge.{sourceVerdict}
 use Rattle.store.specs.declared.SourceSlot.{SourceSlot}
 use Rattle.store.specs.declared.Seat.{Seat}
 use Rattle.store.specs.declared.WallSlot.{WallSlot}
 use Rattle.store.specs.Store.{sourceCount, receiverCount, wallCount, damaged, bookOf, sourceAt, receiverAt, sourceSlotOf, seatOf, wallAt, wallSlotOf, sourceSlotEntry, seatEntry, wallSlotEntry, SourceStands, HeldStands}
 use Rattle.store.proofs.Laws.{source-slot-is, seat-is, wall-slot-is, sound-book}
 use Rattle.ledger.specs.declared.round.Stop.the-variants.{Nowhere, At}
-use Rattle.ledger.specs.Ledger.{stopOf}
+use Rattle.ledger.specs.declared.round.Sender.{Sender}
+use Rattle.ledger.specs.Ledger.{stopOf, sender, nobody, goesFrom, sourceOf, Sends}
 
 -- ---- slots
 
 module _ (s : List ℕ) (i : ℕ) (h : damaged s ≡ false) (l : i < sourceCount) (t : SourceSlot) (e : t ≡ sourceSlotOf (sourceAt i s)) where
-  source-slot-entry : getD (bookOf s .sources) i none ≡ sourceSlotEntry t
+  pub source-slot-entry : getD (bookOf s .sources) i none ≡ sourceSlotEntry t
   source-slot-entry = source-slot-is s i h l ∙ ap sourceSlotEntry (sym e)
 
   pub source-slot-free : t .used ≡ false → getD (bookOf s .sources) i none ≡ none
@@ -30,6 +33,21 @@ module _ (s : List ℕ) (i : ℕ) (h : damaged s ≡ false) (l : i < sourceCount
 
   pub source-slot-stands : t .used ≡ true → SourceStands (t .source)
   source-slot-stands f = sound-book s h .sources-stand i (t .source) (source-slot-used f)
+
+-- who goes from the slot is whoever is in it, and may send
+pub goes-is : (t : SourceSlot) (comes : Sender) → sourceOf (goesFrom t comes) ≡ sourceSlotEntry t
+goes-is t comes = go (t .used)
+  where
+    go : (used : Bool) → sourceOf (cond used (sender (t .source)) (nobody comes)) ≡ cond used (some (t .source)) none
+    go true = refl
+    go false = refl
+
+pub goes-sends : (t : SourceSlot) (comes : Sender) → (t .used ≡ true → sourceVerdict (t .source) ≡ Allowed) → Sends (goesFrom t comes)
+goes-sends t comes ok = go (t .used) ok
+  where
+    go : (used : Bool) → (used ≡ true → sourceVerdict (t .source) ≡ Allowed) → Sends (cond used (sender (t .source)) (nobody comes))
+    go true f e = (f refl, refl)
+    go false f e = absurd (let z : _≡_ {A = ℕ} 0 1 = cc in omega arith)
 
 module _ (s : List ℕ) (j : ℕ) (h : damaged s ≡ false) (l : j < receiverCount) (t : Seat) (e : t ≡ seatOf (receiverAt j s)) where
   seat-entry : getD (bookOf s .receivers) j none ≡ seatEntry t

@@ -15,6 +15,16 @@ use Rattle.ledger.proofs
 bar-at-settled : SettlesResult proofs.round.bar_at.Reads.Post
 bar-at-settled l a = settled _ _
 
+-- who is on a round: a source with what it sends, or nobody
+sends-settled : SettlesResult proofs.round.sends.Reads.Post
+sends-settled l a = settled _ _
+
+nobody-settled : SettlesResult proofs.round.nobody.Reads.Post
+nobody-settled l a = settled _ _
+
+goes-from-settled : SettlesResult proofs.round.goes_from.Reads.Post
+goes-from-settled l a = settled _ _
+
 -- where a gathering stops; and all of one that does not
 gather-stop-settled : Settles (λ l a r e. r .stop) proofs.gather.gather.Reads.Post
 gather-stop-settled l a x y p q = p .stop ∙ sym (q .stop)

@@ -1,15 +1,14 @@
--- What a change of one slot is to the receivers: a source comes, a source goes, or a wall comes or goes.
+-- What a change of one slot is to the receivers: a source goes and another comes, or the walls are others.
 -- Another change is another definition here; the rounds and the book's proofs are for any of them.
-use mathlib.Core.Bool.{Bool, true, cond, _&&_}
-use mathlib.Core.Option.{Option}
+use mathlib.Core.Bool.{Bool, true, _&&_}
+use mathlib.Core.Option.{Option, none, some}
 use mathlib.Core.List.{List, [], _∷_}
 use Rattle.answer.specs.declared.Refusal.{Refusal}
 use Rattle.road.specs.declared.Source.{Source}
 use Rattle.road.specs.declared.Receiver.{Receiver}
+use Rattle.road.specs.declared.Shares.{Shares}
 use Rattle.road.specs.declared.Pair.{Pair}
 use Rattle.road.specs.declared.Pair.the-variants.{Heard, Barred}
-use Rattle.screen.specs.declared.Wall.{Wall}
-use Rattle.road.specs.Reach.{pairOf}
 use Rattle.road.specs.Pairs.{Pairing, isHeard, noShares, brought}
 use Rattle.store.specs.declared.Account.{Account}
 use Rattle.store.specs.declared.Held.{Held}
@@ -32,22 +31,27 @@ follow c x = record { who = x .who; sums = c .sums x }
 abbrev pub barOf : Change → List (Option Held) → Option Refusal
 barOf c l = firstBar (λ (x : Held). c .tried (x .who)) 0 l
 
-module _ (pair : Pairing) (s : Source) where
-  -- the source comes: its shares are added, if there is room for them
-  abbrev pub coming : Change
-  coming = record {
-    tried = λ r. pair s r;
-    fits = λ x. room (x .sums) (brought (pair s (x .who)));
-    sums = λ x. plusOf (x .sums) (brought (pair s (x .who)));
-  }
+-- the pair of a source that is there or not: nobody is heard everywhere, and brings nothing
+abbrev pub pairBy : Pairing → Option Source → Receiver → Pair
+pairBy pair none r = Heard noShares
+pairBy pair (some s) r = pair s r
 
-  -- the source goes, barred by nobody: its shares are taken off, if it is heard and no share is above its sum
-  abbrev pub going : Change
-  going = record {
-    tried = λ r. Heard noShares;
-    fits = λ x. isHeard (pair s (x .who)) && covers (x .sums) (brought (pair s (x .who)));
-    sums = λ x. minusOf (x .sums) (brought (pair s (x .who)));
-  }
+-- an account that the shares `less` leave and `more` enter
+abbrev pub exchanged : Shares → Shares → Account → Account
+exchanged less more a = plusOf (minusOf a less) more
+
+-- it can be so: no share that leaves is above its sum, and then there is room for those that enter
+abbrev pub exchanges : Shares → Shares → Account → Bool
+exchanges less more a = covers a less && room (minusOf a less) more
+
+-- in the slot of the source that goes there is the one that comes, each of them there or not.
+-- The one that comes may be barred; the one that goes has to be heard, or its shares are not in the sums
+abbrev pub exchange : Pairing → Option Source → Option Source → Change
+exchange pair goes comes = record {
+  tried = pairBy pair comes;
+  fits = λ x. isHeard (pairBy pair goes (x .who)) && exchanges (brought (pairBy pair goes (x .who))) (brought (pairBy pair comes (x .who))) (x .sums);
+  sums = λ x. exchanged (brought (pairBy pair goes (x .who))) (brought (pairBy pair comes (x .who))) (x .sums);
+}
 
 -- what the sources make of a point: the bar of the first that is barred there
 abbrev pub onward : Pair → Pair → Pair
@@ -65,7 +69,3 @@ renewing pair ss = record {
   fits = λ x. true;
   sums = λ x. weigh pair ss (x .who) .sums;
 }
-
--- the changes of a source among the walls ws, as the code tells them apart
-abbrev pub changeBy : List Wall → Bool → Source → Change
-changeBy ws adding s = cond adding (coming (pairOf ws) s) (going (pairOf ws) s)

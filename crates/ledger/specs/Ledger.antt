@@ -11,12 +11,14 @@ use Rattle.answer.specs.declared.Refusal.{Refusal}
 use Rattle.road.specs.declared.Source.{Source}
 use Rattle.road.specs.declared.Receiver.{Receiver}
 use Rattle.road.specs.declared.Bar.{Bar}
+use Rattle.road.specs.declared.Shares.{Shares}
 use Rattle.road.specs.declared.Pair.{Pair}
 use Rattle.road.specs.declared.Pair.the-variants.{Heard}
 use Rattle.road.specs.declared.Pair.the-variants.{Barred as Bars}
 use Rattle.road.specs.Pairs.{Pairing, mostShare}
 use Rattle.road.specs.declared.Verdict.the-variants.{Allowed}
-use Rattle.road.specs.Judge.{receiverVerdict}
+use Rattle.road.specs.Judge.{sourceVerdict, receiverVerdict}
+use Rattle.road.specs.Inner.{sentOf}
 use Rattle.level.specs.Level.{top}
 use Rattle.layout.specs.Over.{over}
 use Rattle.screen.specs.declared.Wall.{Wall}
@@ -24,31 +26,48 @@ use Rattle.screen.specs.Screen.{wallNumbers, laid, wallsOf, Laid}
 use Rattle.store.specs.declared.Account.{Account}
 use Rattle.store.specs.declared.Held.{Held}
 use Rattle.store.specs.declared.Seat.{Seat}
-use Rattle.store.specs.Account.{plusOf, minusOf, covers, room, sound, nothing}
+use Rattle.store.specs.declared.SourceSlot.{SourceSlot}
+use Rattle.store.specs.Account.{plusOf, sound, nothing}
 use Rattle.store.specs.Store.{receiverCount, Book, book, HeldStands}
+use Rattle.ledger.specs.declared.round.Sender.{Sender}
 use Rattle.ledger.specs.declared.round.Turn.{Turn}
 use Rattle.ledger.specs.declared.round.Turn.the-variants.{Moved, Barred, Late}
 use Rattle.ledger.specs.declared.round.Stop.{Stop}
 use Rattle.ledger.specs.declared.round.Stop.the-variants.{Nowhere, At}
 use Rattle.ledger.specs.declared.round.Round.{Round}
 use Rattle.ledger.specs.declared.gather.Offer.{Offer}
-use Rattle.ledger.specs.declared.gather.Offer.the-variants.{Free as Nobody, Heard as Brings, Barred as Stops}
+use Rattle.ledger.specs.declared.gather.Offer.the-variants.{Free, Heard as Brings, Barred as Stops}
 use Rattle.ledger.specs.declared.gather.Gathered.{Gathered}
 use Rattle.ledger.specs.declared.Block.{Block}
 use Rattle.ledger.specs.declared.Block.the-variants.{Nothing, By}
 use Rattle.ledger.specs.declared.Tally.{Tally}
 use Rattle.ledger.specs.Lists.{omap, present, every, barAt, firstBar, weigh}
-use Rattle.ledger.specs.Changes.{Change, follow, barOf}
+use Rattle.ledger.specs.Changes.{Change, follow, barOf, exchanged, exchanges}
 
 -- ---- one receiver
 
-abbrev pub raisedBy : Pair → Account → Turn
-raisedBy (Heard h) a = cond (room a h) (Moved (plusOf a h)) Late
-raisedBy (Bars b) a = Barred b
+-- a source on its round, and nobody: what it would send is not asked for
+abbrev pub sender : Source → Sender
+sender s = record { there = true; source = s; sent = sentOf s }
 
-abbrev pub loweredBy : Pair → Account → Turn
-loweredBy (Heard h) a = cond (covers a h) (Moved (minusOf a h)) Late
-loweredBy (Bars b) a = Late
+abbrev pub nobody : Sender → Sender
+nobody p = record { there = false; source = p .source; sent = p .sent }
+
+-- who goes from a slot when another comes
+abbrev pub goesFrom : SourceSlot → Sender → Sender
+goesFrom t comes = cond (t .used) (sender (t .source)) (nobody comes)
+
+-- who it is; and that it may send what it does
+abbrev pub sourceOf : Sender → Option Source
+sourceOf p = cond (p .there) (some (p .source)) none
+
+abbrev pub Sends : Sender → Type 0
+Sends p = p .there ≡ true → (sourceVerdict (p .source) ≡ Allowed) × (p .sent ≡ sentOf (p .source))
+
+-- an account whose shares in the pair are exchanged for these
+abbrev pub exchangedBy : Pair → Shares → Account → Turn
+exchangedBy (Heard less) more a = cond (exchanges less more a) (Moved (exchanged less more a)) Late
+exchangedBy (Bars b) more a = Late
 
 abbrev pub unlessBars : Pair → Turn → Turn
 unlessBars (Heard h) t = t
@@ -105,7 +124,7 @@ offerBy (Heard h) = Brings h
 offerBy (Bars b) = Stops b
 
 abbrev pub offerOf : Pairing → Receiver → Option Source → Offer
-offerOf pair r none = Nobody
+offerOf pair r none = Free
 offerOf pair r (some s) = offerBy (pair s r)
 
 pub record Gathering (pair : Pairing) (r : Receiver) (l : List (Option Source)) (g : Gathered) : Type 0 where

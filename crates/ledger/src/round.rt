@@ -1,14 +1,16 @@
-// A source's round of the receivers: what each account would be with its shares more or less, before a byte is written.
+// The round of the receivers for a source that goes and one that comes: what each account would be, before a byte is written.
 // The first pass works every share out once and keeps the seats as they would be; the second pass writes them.
 use answer::Refusal;
 use road::Bar;
 use road::Pair;
 use road::Receiver;
 use road::Sent;
+use road::Shares;
 use road::Source;
 use store::Account;
 use store::Held;
 use store::Seat;
+use store::SourceSlot;
 ghost use mathlib.Core.Path.{_≡_};
 ghost use mathlib.Core.Bool.{true, false};
 ghost use Prim.Native.Nat.{_<_};
@@ -16,13 +18,20 @@ ghost use Rattle.level.specs.Table.{table};
 ghost use Rattle.screen.specs.Screen.{wallsOf, Laid};
 ghost use Rattle.road.specs.declared.Verdict.the-variants.{Allowed};
 ghost use Rattle.road.specs.Judge.{sourceVerdict, receiverVerdict};
-ghost use Rattle.road.specs.Inner.{sentOf};
+ghost use Rattle.road.specs.Reach.{pairOf};
 ghost use Rattle.store.specs.Store.{receiverCount, damaged, bookOf, bookBytes, book, HeldStands};
 ghost use Rattle.ledger.specs.Lists.{barAt};
-ghost use Rattle.ledger.specs.Changes.{changeBy};
-ghost use Rattle.ledger.specs.Ledger.{raisedBy, loweredBy, turnOf, vacant, Rounded, settled, seated, StandingSeats};
+ghost use Rattle.ledger.specs.Changes.{exchange, pairBy};
+ghost use Rattle.ledger.specs.Ledger.{sender, nobody, goesFrom, sourceOf, Sends, exchangedBy, turnOf, vacant, Rounded, settled, seated, StandingSeats};
 
-// What becomes of a receiver's account when a source comes or goes.
+// Somebody on a round of the receivers, or nobody: a source, and what it sends, which is worked out once.
+pub struct Sender {
+    pub there: bool,
+    pub source: Source,
+    pub sent: Sent,
+}
+
+// What becomes of a receiver's account.
 pub enum Turn {
     Moved(Account),
     Barred(Bar),
@@ -55,50 +64,91 @@ pub fn bar_at(slot: u16, bar: Bar) -> Refusal
     }
 }
 
-// An account with a source's shares more.
-fn raised(sums: Account, p: Pair) -> Turn
-    ensures { λ r. ⌜ r ≡ raisedBy p sums ⌝ }
+// A source on its round.
+pub fn sends(steps: &[u32; 1000], s: Source) -> Sender
+    requires { ⌜ (now steps ≡ table) × (sourceVerdict s ≡ Allowed) ⌝ }
+    ensures { λ r. ⌜ r ≡ sender s ⌝ }
 {
-    match p {
-        Pair::Barred(bar) => Turn::Barred(bar),
-        Pair::Heard(shares) => {
-            if sums.room(shares) {
-                let more = sums.plus(shares);
-                return Turn::Moved(more);
-            }
-            Turn::Late
-        }
+    let sent = emission::send(steps, s);
+    Sender {
+        there: true,
+        source: s,
+        sent,
     }
 }
 
-// An account with a source's shares less. A pair that is barred could not have been placed.
-fn lowered(sums: Account, p: Pair) -> Turn
-    ensures { λ r. ⌜ r ≡ loweredBy p sums ⌝ }
+// Nobody on a round.
+pub fn nobody(beside: Sender) -> Sender
+    ensures { λ r. ⌜ r ≡ nobody beside ⌝ }
 {
-    match p {
+    let source = beside.source;
+    let sent = beside.sent;
+    Sender {
+        there: false,
+        source,
+        sent,
+    }
+}
+
+// Who goes from a slot when another comes.
+pub fn goes_from(steps: &[u32; 1000], slot: SourceSlot, comes: Sender) -> Sender
+    requires { ⌜ (now steps ≡ table) × (slot .used ≡ true → sourceVerdict (slot .source) ≡ Allowed) ⌝ }
+    ensures { λ r. ⌜ r ≡ goesFrom slot comes ⌝ }
+{
+    if slot.used {
+        return sends(steps, slot.source);
+    }
+    nobody(comes)
+}
+
+// What somebody on a round brings to a point, and what nobody does.
+fn heard_at(steps: &[u32; 1000], walls: &[u64], from: Sender, r: Receiver) -> Pair
+    requires { ⌜ (now steps ≡ table) × Sends from × (receiverVerdict r ≡ Allowed) × Laid (now walls) ⌝ }
+    ensures { λ p. ⌜ p ≡ pairBy (pairOf (wallsOf (now (walls .entry)))) (sourceOf from) r ⌝ }
+{
+    if from.there {
+        return reach::pair(steps, walls, from.source, from.sent, r);
+    }
+    Pair::Heard(Shares {
+        day: 0,
+        evening: 0,
+        night: 0,
+    })
+}
+
+// An account whose shares are exchanged for others. A pair that is barred could not have been placed.
+fn exchanged(sums: Account, goes: Pair, more: Shares) -> Turn
+    ensures { λ r. ⌜ r ≡ exchangedBy goes more sums ⌝ }
+{
+    match goes {
         Pair::Barred(_) => Turn::Late,
-        Pair::Heard(shares) => {
-            if sums.covers(shares) {
-                let less = sums.minus(shares);
-                return Turn::Moved(less);
+        Pair::Heard(less) => {
+            if !sums.covers(less) {
+                return Turn::Late;
             }
-            Turn::Late
+            let rest = sums.minus(less);
+            if !rest.room(more) {
+                return Turn::Late;
+            }
+            Turn::Moved(rest.plus(more))
         }
     }
 }
 
-// What becomes of a receiver.
-fn meet(steps: &[u32; 1000], walls: &[u64], x: Held, s: Source, sent: Sent, adding: bool) -> Turn
-    requires { ⌜ (now steps ≡ table) × (sourceVerdict s ≡ Allowed) × (sent ≡ sentOf s) × (receiverVerdict (x .who) ≡ Allowed) × Laid (now walls) ⌝ }
-    ensures { λ r. ⌜ r ≡ turnOf (changeBy (wallsOf (now (walls .entry))) adding s) x ⌝ }
+// What becomes of a receiver: the source that comes is asked for first.
+fn meet(steps: &[u32; 1000], walls: &[u64], x: Held, goes: Sender, comes: Sender) -> Turn
+    requires { ⌜ (now steps ≡ table) × Sends goes × Sends comes × (receiverVerdict (x .who) ≡ Allowed) × Laid (now walls) ⌝ }
+    ensures { λ r. ⌜ r ≡ turnOf (exchange (pairOf (wallsOf (now (walls .entry)))) (sourceOf goes) (sourceOf comes)) x ⌝ }
 {
     let who = x.who;
     let sums = x.sums;
-    let p = reach::pair(steps, walls, s, sent, who);
-    if adding {
-        return raised(sums, p);
+    match heard_at(steps, walls, comes, who) {
+        Pair::Barred(bar) => Turn::Barred(bar),
+        Pair::Heard(more) => {
+            let p = heard_at(steps, walls, goes, who);
+            exchanged(sums, p, more)
+        }
     }
-    lowered(sums, p)
 }
 
 // A seat with nobody in it.
@@ -127,12 +177,11 @@ pub fn go_round(
     steps: &[u32; 1000],
     walls: &[u64],
     store: &[u8],
-    s: Source,
-    sent: Sent,
-    adding: bool,
+    goes: Sender,
+    comes: Sender,
 ) -> Round
-    requires { ⌜ (now steps ≡ table) × (damaged (now store) ≡ false) × (sourceVerdict s ≡ Allowed) × (sent ≡ sentOf s) × Laid (now walls) ⌝ }
-    ensures { λ r. ⌜ Rounded (changeBy (wallsOf (now (walls .entry))) adding s) (bookOf (now (store .entry)) .receivers) r ⌝ }
+    requires { ⌜ (now steps ≡ table) × (damaged (now store) ≡ false) × Sends goes × Sends comes × Laid (now walls) ⌝ }
+    ensures { λ r. ⌜ Rounded (exchange (pairOf (wallsOf (now (walls .entry)))) (sourceOf goes) (sourceOf comes)) (bookOf (now (store .entry)) .receivers) r ⌝ }
 {
     let empty = vacant();
     let mut seats = [empty; store::RECEIVERS];
@@ -142,7 +191,7 @@ pub fn go_round(
         let seat = store::receivers::seat(store, j);
         let x = seat.held;
         if seat.used {
-            match meet(steps, walls, x, s, sent, adding) {
+            match meet(steps, walls, x, goes, comes) {
                 Turn::Moved(sums) => {
                     let who = x.who;
                     let held = Held { who, sums };

@@ -1,4 +1,4 @@
--- All the figures that are proved are those on paper: one test, computed over one table; and the pair of the 25 m case by them.
+-- All the figures that are proved are those on paper: one test, computed over one table; and by them the pairs of the 25 m case and of the 100 m case.
 -- Assumes nothing.
 use mathlib.Core.Path.{_≡_, refl, ap, _∙_}
 use mathlib.Core.Bool.{Bool, true, false, _&&_, _||_}
@@ -48,23 +48,11 @@ figure (f ∷ l) i t = go (eqb (f .defined) (f .onPaper)) refl t (figure l) i
     go true e t ih (suc i) = ih i t
     go false e t ih i = absurd t
 
-abbrev level : ℕ → Term
-level period = shareLevel [] (road 102500) (piece 102500) home period
+abbrev level : ℕ → ℕ → Term
+level x period = shareLevel [] (road x) (piece x) home period
 
 abbrev above : Term → ℕ
 above t = t .up - t .down
-
-day : above (level 0) ≡ 6028
-unfolding figures levels roads
-day = figure figures 25 figures-right
-
-evening : above (level 1) ≡ 6028
-unfolding figures levels roads
-evening = figure figures 26 figures-right
-
-night : above (level 2) ≡ 5028
-unfolding figures levels roads
-night = figure figures 27 figures-right
 
 energy : (t : Term) (n : ℕ) → above t ≡ suc n → energyShare t ≡ energyOf (suc n)
 unfolding energyShare
@@ -85,28 +73,51 @@ pub home-allowed : receiverVerdict home ≡ Allowed
 unfolding receiverVerdict
 home-allowed = refl
 
--- ---- the 25 m case: the road brings 60.28 dB by day and in the evening, and 50.28 dB at night
+-- ---- the pair of the road at x and the point, by the share levels of the three periods
 
-abbrev near-shares : Shares
-near-shares = record { day = energyOf 6028; evening = energyOf 6028; night = energyOf 5028 }
+abbrev sharesAt : ℕ → ℕ → ℕ → Shares
+sharesAt d e n = record { day = energyOf (suc d); evening = energyOf (suc e); night = energyOf (suc n) }
 
-quiet : (loudIn [] (road 102500) (piece 102500) home 0 || loudIn [] (road 102500) (piece 102500) home 1 || loudIn [] (road 102500) (piece 102500) home 2) ≡ false
-unfolding loudIn
-quiet = rw (soft (level 0) 6028 day (omega arith), soft (level 1) 6028 evening (omega arith), soft (level 2) 5028 night (omega arith))
+module _ (x d e n : ℕ) (day : above (level x 0) ≡ suc d) (evening : above (level x 1) ≡ suc e) (night : above (level x 2) ≡ suc n) where
+  quiet : suc d ≤ loudest → suc e ≤ loudest → suc n ≤ loudest
+      → (loudIn [] (road x) (piece x) home 0 || loudIn [] (road x) (piece x) home 1 || loudIn [] (road x) (piece x) home 2) ≡ false
+  unfolding loudIn
+  quiet f g h = rw (soft (level x 0) (suc d) day f, soft (level x 1) (suc e) evening g, soft (level x 2) (suc n) night h)
 
-shares-are : sharesOf [] (road 102500) (piece 102500) home ≡ near-shares
-unfolding sharesOf shareOf
-shares-are = λ i. record { day = energy (level 0) 6027 day i; evening = energy (level 1) 6027 evening i; night = energy (level 2) 5027 night i }
+  shares-are : sharesOf [] (road x) (piece x) home ≡ sharesAt d e n
+  unfolding sharesOf shareOf
+  shares-are = λ i. record { day = energy (level x 0) d day i; evening = energy (level x 1) e evening i; night = energy (level x 2) n night i }
 
-apart-is : spaceSquare (piece 102500) home ≡ 6372500
-unfolding spaceSquare planSquare
-apart-is = refl
-
-no-walls : twoWalls [] home (piece 102500) ≡ false
+no-walls : (x : ℕ) → twoWalls [] home (piece x) ≡ false
 unfolding screenBetween lossOf metOf between
-no-walls = refl
+no-walls x = refl
 
-pub near-pair : pairOf [] (road 102500) home ≡ Heard near-shares
+-- the 25 m case: the road brings 60.28 dB by day and in the evening, and 50.28 dB at night
+near-apart : spaceSquare (piece 102500) home ≡ 6372500
+unfolding spaceSquare planSquare
+near-apart = refl
+
+pub near-pair : pairOf [] (road 102500) home ≡ Heard (sharesAt 6027 6027 5027)
+unfolding figures levels roads
 near-pair =
-    pair-heard [] (road 102500) (piece 102500) home refl (omega (arith, apart-is)) (omega (arith, apart-is)) (omega (arith, apart-is)) no-walls quiet
-    ∙ (λ i. Heard (shares-are i))
+    let day = figure figures 25 figures-right in
+    let evening = figure figures 26 figures-right in
+    let night = figure figures 27 figures-right in
+    pair-heard [] (road 102500) (piece 102500) home refl (omega (arith, near-apart)) (omega (arith, near-apart)) (omega (arith, near-apart)) (no-walls 102500)
+    (quiet 102500 6027 6027 5027 day evening night (omega arith) (omega arith) (omega arith))
+    ∙ ap Heard (shares-are 102500 6027 6027 5027 day evening night)
+
+-- the same road 100 m away: 42.93, 43.48 and 34.03 dB
+far-apart : spaceSquare (piece 110000) home ≡ 100122500
+unfolding spaceSquare planSquare
+far-apart = refl
+
+pub far-pair : pairOf [] (road 110000) home ≡ Heard (sharesAt 4292 4347 3402)
+unfolding figures levels roads
+far-pair =
+    let day = figure figures 28 figures-right in
+    let evening = figure figures 29 figures-right in
+    let night = figure figures 30 figures-right in
+    pair-heard [] (road 110000) (piece 110000) home refl (omega (arith, far-apart)) (omega (arith, far-apart)) (omega (arith, far-apart)) (no-walls 110000)
+    (quiet 110000 4292 4347 3402 day evening night (omega arith) (omega arith) (omega arith))
+    ∙ ap Heard (shares-are 110000 4292 4347 3402 day evening night)

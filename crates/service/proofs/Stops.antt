@@ -48,7 +48,7 @@ apart : {A : Type 0} (n : ℕ) → Apart n → Stopping n → A
 apart n a s = absurd (⊎-elim (λ h. ⊎-elim (λ e. omega (arith, h, e)) (λ e. omega (arith, h, e)) s) (λ h. ⊎-elim (λ e. omega (arith, h, e)) (λ e. omega (arith, h, e)) s) a)
 
 book-apart : (n : ℕ) → BookNumber n → Apart n
-book-apart n b = ⊎-elim (λ e. inl (omega (arith, e))) (λ c. ⊎-elim (λ e. inl (omega (arith, e))) (λ r. inr (omega (arith, r .0))) c) b
+book-apart n b = ⊎-elim (λ e. inl (omega (arith, e))) (λ c. ⊎-elim (λ e. inl (omega (arith, e))) (λ r. inr (omega (arith, r .0 .0))) c) b
 
 second : (a b : Bool) → a || b ≡ true → a ≡ false → b ≡ true
 second true b e f = absurd (let z : _≡_ {A = ℕ} 0 1 = cc in omega arith)

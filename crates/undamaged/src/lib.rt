@@ -6,6 +6,7 @@ use index::Index;
 use ledger::fences;
 use ledger::gather;
 use ledger::round;
+use ledger::round::Sender;
 use ledger::round::Stop;
 use road::Receiver;
 use road::Source;
@@ -16,24 +17,28 @@ ghost use mathlib.Core.Path.{_≡_};
 ghost use mathlib.Core.Bool.{true, false, cond};
 ghost use mathlib.Core.Option.{none, some};
 ghost use Prim.Native.Nat.{_<_};
-ghost use lib.ListN.{set};
+ghost use lib.ListN.{getD, set};
 ghost use Rattle.level.specs.Table.{table};
 ghost use Rattle.road.specs.declared.Verdict.the-variants.{Allowed};
 ghost use Rattle.road.specs.Judge.{sourceVerdict, receiverVerdict, wallVerdict};
 ghost use Rattle.store.specs.Store.{sourceCount, receiverCount, wallCount, damaged, bookOf, bookBytes, book};
-ghost use Rattle.ledger.specs.Lists.{present};
-ghost use Rattle.ledger.specs.Changes.{changeBy};
-ghost use Rattle.calls.specs.Calls.{told, changeSource, enterSource, leaveSource, enterReceiver, leaveReceiver, changeWall, enterWall, leaveWall, indicesAt, placeSource, withdrawSource, placeReceiver, withdrawReceiver, placeWall, withdrawWall, askReceiver};
+ghost use Rattle.ledger.specs.Ledger.{sourceOf, Sends};
+ghost use Rattle.calls.specs.Calls.{told, changeSource, leaveSource, changeReceiver, leaveReceiver, changeWall, leaveWall, indicesAt, placeSource, withdrawSource, placeReceiver, withdrawReceiver, placeWall, withdrawWall, askReceiver};
 
-// A source comes into slot i or goes from it: every receiver is asked first, and only then is anything written.
-fn change_source(steps: &[u32; 1000], store: &mut [u8], i: usize, s: Source, adding: bool) -> Answer
-    requires { ⌜ (now steps ≡ table) × (damaged (now store) ≡ false) × (i < sourceCount) × (sourceVerdict s ≡ Allowed) ⌝ }
-    ensures { λ r. ⌜ (r, now (store .exit)) ≡ told (now (store .entry)) (changeSource (changeBy (present (bookOf (now (store .entry)) .walls)) adding s) i (cond adding (some s) none) (bookOf (now (store .entry)))) ⌝ }
+// Somebody goes from source slot i and somebody comes: every receiver is asked first, and only then is anything written.
+fn change_source(
+    steps: &[u32; 1000],
+    store: &mut [u8],
+    i: usize,
+    goes: Sender,
+    comes: Sender,
+) -> Answer
+    requires { ⌜ (now steps ≡ table) × (damaged (now store) ≡ false) × (i < sourceCount) × Sends goes × Sends comes × (sourceOf goes ≡ getD (bookOf (now store) .sources) i none) ⌝ }
+    ensures { λ r. ⌜ (r, now (store .exit)) ≡ told (now (store .entry)) (changeSource i (sourceOf comes) (bookOf (now (store .entry)))) ⌝ }
 {
     let mut numbers = [0u64; fences::NUMBERS];
     let n = fences::standing(store, &mut numbers);
-    let sent = emission::send(steps, s);
-    let found = round::go_round(steps, &numbers[..n], store, s, sent, adding);
+    let found = round::go_round(steps, &numbers[..n], store, goes, comes);
     let stop = found.stop;
     match stop {
         Stop::At(why) => Answer::Refused(why),
@@ -43,34 +48,33 @@ fn change_source(steps: &[u32; 1000], store: &mut [u8], i: usize, s: Source, add
             }
             let seats = found.seats;
             round::write_seats(store, seats);
-            write_source(store, i, s, adding);
+            write_source(store, i, comes);
             Answer::Done
         }
     }
 }
 
-// Writes a source into slot i, or makes the slot free.
-fn write_source(store: &mut [u8], i: usize, s: Source, adding: bool)
-    requires { ⌜ (damaged (now store) ≡ false) × (i < sourceCount) × (sourceVerdict s ≡ Allowed) ⌝ }
-    ensures { λ _. ⌜ now (store .exit) ≡ bookBytes (book (set (bookOf (now (store .entry)) .sources) i (cond adding (some s) none)) (bookOf (now (store .entry)) .receivers) (bookOf (now (store .entry)) .walls)) ⌝ }
+// Writes who comes into slot i, or makes the slot free.
+fn write_source(store: &mut [u8], i: usize, comes: Sender)
+    requires { ⌜ (damaged (now store) ≡ false) × (i < sourceCount) × Sends comes ⌝ }
+    ensures { λ _. ⌜ now (store .exit) ≡ bookBytes (book (set (bookOf (now (store .entry)) .sources) i (sourceOf comes)) (bookOf (now (store .entry)) .receivers) (bookOf (now (store .entry)) .walls)) ⌝ }
 {
-    if adding {
-        store::sources::put_source(store, i, s);
+    if comes.there {
+        store::sources::put_source(store, i, comes.source);
     } else {
         store::sources::drop_source(store, i);
     }
 }
 
-// Places a source whose fields and slot are allowed.
+// Places a source whose fields and slot are allowed: whoever is in the slot goes.
 fn enter_source(steps: &[u32; 1000], store: &mut [u8], i: usize, s: Source) -> Answer
     requires { ⌜ (now steps ≡ table) × (damaged (now store) ≡ false) × (i < sourceCount) × (sourceVerdict s ≡ Allowed) ⌝ }
-    ensures { λ r. ⌜ (r, now (store .exit)) ≡ told (now (store .entry)) (enterSource i s (bookOf (now (store .entry)))) ⌝ }
+    ensures { λ r. ⌜ (r, now (store .exit)) ≡ told (now (store .entry)) (changeSource i (some s) (bookOf (now (store .entry)))) ⌝ }
 {
     let source_slot = store::sources::source_slot(store, i);
-    if source_slot.used {
-        return Answer::Refused(Refusal::Taken);
-    }
-    change_source(steps, store, i, s, true)
+    let comes = round::sends(steps, s);
+    let goes = round::goes_from(steps, source_slot, comes);
+    change_source(steps, store, i, goes, comes)
 }
 
 // Places a source.
@@ -94,7 +98,9 @@ fn leave_source(steps: &[u32; 1000], store: &mut [u8], i: usize) -> Answer
     if !source_slot.used {
         return Answer::Refused(Refusal::Vacant);
     }
-    change_source(steps, store, i, source_slot.source, false)
+    let goes = round::sends(steps, source_slot.source);
+    let comes = round::nobody(goes);
+    change_source(steps, store, i, goes, comes)
 }
 
 // Withdraws a source.
@@ -108,15 +114,11 @@ pub fn withdraw_source(steps: &[u32; 1000], store: &mut [u8], slot: u16) -> Answ
     }
 }
 
-// Places a receiver whose fields and slot are allowed.
+// Places a receiver whose fields and slot are allowed: whoever is in the slot goes.
 fn enter_receiver(steps: &[u32; 1000], store: &mut [u8], j: usize, r: Receiver) -> Answer
     requires { ⌜ (now steps ≡ table) × (damaged (now store) ≡ false) × (j < receiverCount) × (receiverVerdict r ≡ Allowed) ⌝ }
-    ensures { λ a. ⌜ (a, now (store .exit)) ≡ told (now (store .entry)) (enterReceiver j r (bookOf (now (store .entry)))) ⌝ }
+    ensures { λ a. ⌜ (a, now (store .exit)) ≡ told (now (store .entry)) (changeReceiver j (some r) (bookOf (now (store .entry)))) ⌝ }
 {
-    let seat = store::receivers::seat(store, j);
-    if seat.used {
-        return Answer::Refused(Refusal::Taken);
-    }
     let mut numbers = [0u64; fences::NUMBERS];
     let n = fences::standing(store, &mut numbers);
     let brought = gather::gather(steps, &numbers[..n], store, r);
@@ -168,7 +170,7 @@ pub fn withdraw_receiver(store: &mut [u8], slot: u16) -> Answer
     }
 }
 
-// A wall comes into slot k or goes from it: every account is worked out afresh first, and only then is anything written.
+// Whoever is in wall slot k goes, and w comes or nobody: every account is worked out afresh first, and only then is anything written.
 fn change_wall(steps: &[u32; 1000], store: &mut [u8], k: usize, w: Wall, adding: bool) -> Answer
     requires { ⌜ (now steps ≡ table) × (damaged (now store) ≡ false) × (k < wallCount) × (adding ≡ true → wallVerdict w ≡ Allowed) ⌝ }
     ensures { λ r. ⌜ (r, now (store .exit)) ≡ told (now (store .entry)) (changeWall k (cond adding (some w) none) (bookOf (now (store .entry)))) ⌝ }
@@ -203,18 +205,6 @@ fn write_wall(store: &mut [u8], k: usize, w: Wall, adding: bool)
     }
 }
 
-// Places a wall whose fields and slot are allowed.
-fn enter_wall(steps: &[u32; 1000], store: &mut [u8], k: usize, w: Wall) -> Answer
-    requires { ⌜ (now steps ≡ table) × (damaged (now store) ≡ false) × (k < wallCount) × (wallVerdict w ≡ Allowed) ⌝ }
-    ensures { λ r. ⌜ (r, now (store .exit)) ≡ told (now (store .entry)) (enterWall k w (bookOf (now (store .entry)))) ⌝ }
-{
-    let wall_slot = store::walls::wall_slot(store, k);
-    if wall_slot.used {
-        return Answer::Refused(Refusal::Taken);
-    }
-    change_wall(steps, store, k, w, true)
-}
-
 // Places a wall.
 pub fn place_wall(steps: &[u32; 1000], store: &mut [u8], slot: u16, w: Wall) -> Answer
     requires { ⌜ (now steps ≡ table) × (damaged (now store) ≡ false) ⌝ }
@@ -223,7 +213,7 @@ pub fn place_wall(steps: &[u32; 1000], store: &mut [u8], slot: u16, w: Wall) -> 
     let fields = judge::judge_wall(w);
     match judge::judge_slot(store::LAST_WALL, slot, fields) {
         Verdict::Refused(why) => Answer::Refused(why),
-        Verdict::Allowed => enter_wall(steps, store, slot as usize, w),
+        Verdict::Allowed => change_wall(steps, store, slot as usize, w, true),
     }
 }
 

@@ -15,9 +15,9 @@ use Rattle.store.specs.declared.Held.{Held}
 use Rattle.store.specs.Store.{Book, book, bookOf, bookBytes}
 use Rattle.store.proofs.Laws.{many-sources, sound-book}
 use Rattle.ledger.specs.Lists.{present}
-use Rattle.ledger.specs.Changes.{Change, changeBy, renewing}
+use Rattle.ledger.specs.Changes.{Change, renewing}
 use Rattle.ledger.specs.Ledger.{Rounded, seated}
-use Rattle.calls.proofs.Rounded.{changes-sound, renewing-sound, change-stand, told-barred, told-late, told-done}
+use Rattle.calls.proofs.Rounded.{renewing-sound, change-stand, told-barred, told-late, told-done}
 use Rattle.undamaged.proofs.change_wall.Statement.{statement}
 use Rattle.undamaged.proofs.change_wall.Tie as tie
 

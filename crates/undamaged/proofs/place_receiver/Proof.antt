@@ -2,11 +2,12 @@
 use mathlib.Core.Path.{sym, ap, _∙_}
 use Prim.Native.Nat.{_-_}
 use native.Mathlib.Omega.{arith}
+use mathlib.Core.Option.{some}
 use borrow.Author.Needs.{needs}
 use Rattle.road.specs.declared.Verdict.{Verdict}
 use Rattle.road.specs.Judge.{slotVerdict}
 use Rattle.store.specs.Store.{lastReceiver, bookOf}
-use Rattle.calls.specs.Calls.{told, allow, enterReceiver, placeReceiver}
+use Rattle.calls.specs.Calls.{told, allow, changeReceiver, placeReceiver}
 use Rattle.road.proofs.Judged.{slot-allowed}
 use Rattle.calls.proofs.Keeps.{receiver-in-kept}
 use Rattle.undamaged.proofs.place_receiver.Statement.{statement}
@@ -40,7 +41,7 @@ returns c =
     let start = f .before .before in
     let s = start .args .store .now in
     let e =
-    ap (λ (v : Verdict). told s (allow v (enterReceiver (start .args .slot) (start .args .r) (bookOf s))))
+    ap (λ (v : Verdict). told s (allow v (changeReceiver (start .args .slot) (some (start .args .r)) (bookOf s))))
     (sym (c .before .why .given .1) ∙ j .judge-slot .ensures ∙ ap (slotVerdict lastReceiver (start .args .slot)) (f .judge-receiver .ensures)) in
     (e, receiver-in-kept s (start .pre .1) (start .args .slot) (start .args .r) e)
 
@@ -56,7 +57,7 @@ returns-2 c =
     let s = start .args .store .now in
     let e =
     c .before .before .enter-receiver .ensures
-    ∙ ap (λ (v : Verdict). told s (allow v (enterReceiver (start .args .slot) (start .args .r) (bookOf s))))
+    ∙ ap (λ (v : Verdict). told s (allow v (changeReceiver (start .args .slot) (some (start .args .r)) (bookOf s))))
     (sym (c .before .before .before .before .enum-told .given .1) ∙ j .judge-slot .ensures ∙ ap (slotVerdict lastReceiver (start .args .slot)) (f .judge-receiver .ensures)) in
     (e, receiver-in-kept s (start .pre .1) (start .args .slot) (start .args .r) e)
 

@@ -2,11 +2,12 @@
 use mathlib.Core.Path.{sym, ap, _∙_}
 use Prim.Native.Nat.{_-_}
 use native.Mathlib.Omega.{arith}
+use mathlib.Core.Option.{some}
 use borrow.Author.Needs.{needs}
 use Rattle.road.specs.declared.Verdict.{Verdict}
 use Rattle.road.specs.Judge.{slotVerdict}
 use Rattle.store.specs.Store.{lastSource, bookOf}
-use Rattle.calls.specs.Calls.{told, allow, enterSource, placeSource}
+use Rattle.calls.specs.Calls.{told, allow, changeSource, placeSource}
 use Rattle.road.proofs.Judged.{slot-allowed}
 use Rattle.road.proofs.Periods.{owned-periods}
 use Rattle.calls.proofs.Keeps.{source-in-kept}
@@ -41,7 +42,7 @@ returns c =
     let start = f .before .before in
     let s = start .args .store .now in
     let e =
-    ap (λ (v : Verdict). told s (allow v (enterSource (start .args .slot) (start .args .s) (bookOf s))))
+    ap (λ (v : Verdict). told s (allow v (changeSource (start .args .slot) (some (start .args .s)) (bookOf s))))
     (sym (c .before .why .given .1) ∙ j .judge-slot .ensures ∙ ap (slotVerdict lastSource (start .args .slot)) (f .judge-source .ensures)) in
     (e, source-in-kept s (start .pre .1) (start .args .slot) (start .args .s) (owned-periods (start .args .s) _ (start .good .1 .1 .1 .0)) e)
 
@@ -57,7 +58,7 @@ returns-2 c =
     let s = start .args .store .now in
     let e =
     c .before .before .enter-source .ensures
-    ∙ ap (λ (v : Verdict). told s (allow v (enterSource (start .args .slot) (start .args .s) (bookOf s))))
+    ∙ ap (λ (v : Verdict). told s (allow v (changeSource (start .args .slot) (some (start .args .s)) (bookOf s))))
     (sym (c .before .before .before .before .enum-told .given .1) ∙ j .judge-slot .ensures ∙ ap (slotVerdict lastSource (start .args .slot)) (f .judge-source .ensures)) in
     (e, source-in-kept s (start .pre .1) (start .args .slot) (start .args .s) (owned-periods (start .args .s) _ (start .good .1 .1 .1 .0)) e)
 

@@ -8,21 +8,23 @@ use mathlib.Core.List.{List}
 use borrow.Author.Needs.{needs}
 use lib.ListN.{getD, length}
 use Rattle.screen.specs.Screen.{wallsOf}
+use Rattle.road.specs.Reach.{pairOf}
 use Rattle.store.specs.declared.Held.{Held}
 use Rattle.store.specs.Store.{receiverCount, bookOf}
 use Rattle.store.proofs.Laws.{undamaged, sound-book}
 use Rattle.ledger.specs.declared.round.Stop.the-variants.{At}
-use Rattle.ledger.specs.Changes.{Change, changeBy}
+use Rattle.ledger.specs.Changes.{Change, exchange}
+use Rattle.ledger.specs.Ledger.{sourceOf}
 use Rattle.ledger.proofs.Entries.{seat-free, seat-used, seat-stands}
 use Rattle.ledger.proofs.Rounds.{Rounding, round-begun, round-free, round-moved, round-late, round-barred, round-over, round-stopped}
 use Rattle.ledger.proofs.round.go_round.Statement.{statement}
 use Rattle.ledger.proofs.round.go_round.Tie as tie
 
 abbrev Inv-loop : tie.InvT-loop
-Inv-loop steps walls store s sent adding seats₀ late₀ j₀ seats late j = (j ≤ receiverCount) × Rounding (changeBy (wallsOf walls) adding s) (bookOf store .receivers) late seats j
+Inv-loop steps walls store goes comes seats₀ late₀ j₀ seats late j = (j ≤ receiverCount) × Rounding (exchange (pairOf (wallsOf walls)) (sourceOf goes) (sourceOf comes)) (bookOf store .receivers) late seats j
 
 abbrev μ-loop : tie.MeasureT-loop
-μ-loop steps walls store s sent adding seats₀ late₀ j₀ seats late j = receiverCount - j
+μ-loop steps walls store goes comes seats₀ late₀ j₀ seats late j = receiverCount - j
 
 vacant-requires : tie.Need-vacant-requires Inv-loop μ-loop
 vacant-requires c κs = search needs
@@ -30,7 +32,7 @@ vacant-requires c κs = search needs
 loop-holds : tie.Need-loop-holds Inv-loop μ-loop
 loop-holds c =
     let a = c .before .before .before .args in
-    (omega arith, rw (c .vacant .ensures) (round-begun (changeBy (wallsOf (a .walls .now)) (a .adding) (a .s)) (bookOf (a .store .now) .receivers)))
+    (omega arith, rw (c .vacant .ensures) (round-begun (exchange (pairOf (wallsOf (a .walls .now))) (sourceOf (a .goes)) (sourceOf (a .comes))) (bookOf (a .store .now) .receivers)))
 
 seat-requires : tie.Need-seat-requires Inv-loop μ-loop
 seat-requires c κs =
@@ -51,7 +53,7 @@ abbrev begun : tie.After-seat Inv-loop μ-loop → tie.Start Inv-loop μ-loop
 begun t = t .before .before .before .before .before .before
 
 abbrev made : tie.After-seat Inv-loop μ-loop → Change
-made t = changeBy (wallsOf (begun t .args .walls .now)) (begun t .args .adding) (begun t .args .s)
+made t = exchange (pairOf (wallsOf (begun t .args .walls .now))) (sourceOf (begun t .args .goes)) (sourceOf (begun t .args .comes))
 
 abbrev told : tie.After-seat Inv-loop μ-loop → List (Option Held)
 told t = bookOf (begun t .args .store .now) .receivers
@@ -138,7 +140,7 @@ returns-2 : tie.Need-returns-2 Inv-loop μ-loop
 returns-2 c =
     let start = c .before .before .before .before .before in
     let a = start .args in
-    round-over (changeBy (wallsOf (a .walls .now)) (a .adding) (a .s)) (bookOf (a .store .now) .receivers) (c .before .loop .late) (c .before .loop .seats) (c .before .loop .j)
+    round-over (exchange (pairOf (wallsOf (a .walls .now))) (sourceOf (a .goes)) (sourceOf (a .comes))) (bookOf (a .store .now) .receivers) (c .before .loop .late) (c .before .loop .seats) (c .before .loop .j)
     (sound-book (a .store .now) (start .pre .1) .seats) (omega (arith, c .loop-test .left)) (c .before .loop .inv .1)
 
 pub go-round-spec : {M : Type 1} → statement M
