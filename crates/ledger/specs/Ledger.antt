@@ -48,10 +48,10 @@ use Rattle.ledger.specs.Changes.{Change, follow, barOf, exchanged, excha
 
 -- a source on its round, and nobody: what it would send is not asked for
 abbrev pub sender : Source → Sender
-sender s = record { there = true; source = s; sent = sentOf s }
+sender s = record { sent = sentOf s; source = s; there = true }
 
 abbrev pub nobody : Sender → Sender
-nobody p = record { there = false; source = p .source; sent = p .sent }
+nobody p = record { sent = p .sent; source = p .source; there = false }
 
 -- who goes from a slot when another comes
 abbrev pub goesFrom : SourceSlot → Sender → Sender

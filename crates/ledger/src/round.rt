@@ -24,11 +24,11 @@ ghost use Rattle.ledger.specs.Lists.{barAt};
 ghost use Rattle.ledger.specs.Changes.{exchange, pairBy};
 ghost use Rattle.ledger.specs.Ledger.{sender, nobody, goesFrom, sourceOf, Sends, exchangedBy, turnOf, vacant, Rounded, settled, seated, StandingSeats};
 
-// Somebody on a round of the receivers, or nobody: a source, and what it sends, which is worked out once.
+// Somebody on a round of the receivers, or nobody: what is sent, which is worked out once, by which source, and whether it is there at all.
 pub struct Sender {
-    pub there: bool,
-    pub source: Source,
     pub sent: Sent,
+    pub source: Source,
+    pub there: bool,
 }
 
 // What becomes of a receiver's account.
@@ -71,9 +71,9 @@ pub fn sends(steps: &[u32; 1000], s: Source) -> Sender
 {
     let sent = emission::send(steps, s);
     Sender {
-        there: true,
-        source: s,
         sent,
+        source: s,
+        there: true,
     }
 }
 
@@ -84,9 +84,9 @@ pub fn nobody(beside: Sender) -> Sender
     let source = beside.source;
     let sent = beside.sent;
     Sender {
-        there: false,
-        source,
         sent,
+        source,
+        there: false,
     }
 }
 

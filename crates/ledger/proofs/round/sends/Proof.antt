@@ -10,7 +10,7 @@ send-requires : tie.Need-send-requires
 send-requires c κs = search needs
 
 returns : tie.Need-returns
-returns c = ap (λ (sent : Sent). record { there = true; source = c .before .args .s; sent = sent }) (c .send .ensures)
+returns c = ap (λ (sent : Sent). record { sent = sent; source = c .before .args .s; there = true }) (c .send .ensures)
 
 pub sends-spec : {M : Type 1} → statement M
 sends-spec = tie.close (tie.spec send-requires returns)
