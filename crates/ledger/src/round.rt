@@ -130,7 +130,8 @@ fn exchanged(sums: Account, goes: Pair, more: Shares) -> Turn
             if !rest.room(more) {
                 return Turn::Late;
             }
-            Turn::Moved(rest.plus(more))
+            let next = rest.plus(more);
+            Turn::Moved(next)
         }
     }
 }
