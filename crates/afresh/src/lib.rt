@@ -1,5 +1,6 @@
 // Every account worked out afresh, for walls that are others: each source is read and sends once, and is heard at every receiver.
 // What becomes of the accounts is told as a round, which no byte is written in.
+use account::Account;
 use ledger::Block;
 use ledger::Tally;
 use ledger::round;
@@ -10,7 +11,6 @@ use road::Pair;
 use road::Sent;
 use road::Shares;
 use road::Source;
-use store::Account;
 use store::Held;
 use store::Seat;
 ghost use mathlib.Core.Path.{_≡_};

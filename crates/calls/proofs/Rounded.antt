@@ -15,7 +15,7 @@ use Rattle.road.specs.Reach.{pairOf}
 use Rattle.road.specs.Pairs.{Pairing, isHeard}
 use Rattle.store.specs.declared.Held.{Held}
 use Rattle.store.specs.declared.Seat.{Seat}
-use Rattle.store.specs.Account.{sound, covers}
+use Rattle.account.specs.Account.{sound, covers}
 use Rattle.road.proofs.Pairs.{pair-bounded}
 use Rattle.store.specs.Store.{receiverCount, sourceSlots, Book, bookOf, bookBytes, HeldStands, SoundBook}
 use Rattle.ledger.specs.declared.round.Stop.the-variants.{Nowhere, At}

@@ -16,7 +16,7 @@ use Rattle.road.specs.declared.Pair.{Pair}
 use Rattle.road.specs.declared.Pair.the-variants.{Heard, Barred}
 use Rattle.road.specs.Pairs.{Pairing, isHeard, mostShare, shareIn, Bounded}
 use Rattle.level.specs.Level.{top}
-use Rattle.store.specs.Account.{sound}
+use Rattle.account.specs.Account.{sound}
 use Rattle.store.specs.Store.{sourceCount, sourceSlots}
 use Rattle.store.proofs.Laws.{many-sources}
 use Rattle.ledger.specs.Lists.{present, All, sumOf, orBar, firstBar, weigh}

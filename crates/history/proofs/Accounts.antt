@@ -12,7 +12,7 @@ use Rattle.road.specs.declared.Source.{Source}
 use Rattle.road.specs.declared.Receiver.{Receiver}
 use Rattle.road.specs.declared.Pair.the-variants.{Heard}
 use Rattle.road.specs.Pairs.{Pairing, noShares, brought, shareIn}
-use Rattle.store.specs.Account.{covers}
+use Rattle.account.specs.Account.{covers}
 use Rattle.ledger.specs.Lists.{present, sumOf, weigh}
 use Rattle.ledger.specs.Changes.{follow, pairBy, exchange}
 use Rattle.calls.proofs.Sums.{and-both}

@@ -17,7 +17,7 @@ use Rattle.road.specs.Pairs.{Pairing, isHeard, brought}
 use Rattle.road.proofs.Pairs.{pair-bounded}
 use Rattle.road.specs.Judge.{sourceVerdict, receiverVerdict, wallVerdict, slotVerdict}
 use Rattle.store.specs.declared.Held.{Held}
-use Rattle.store.specs.Account.{sound, covers}
+use Rattle.account.specs.Account.{sound, covers}
 use Rattle.store.specs.Store.{lastSource, lastReceiver, lastWall, Book, book, sourceSlots, receiverSlots, wallSlots, SourceStands, HeldStands}
 use Rattle.store.specs.Store.{WallStands, SoundBook}
 use Rattle.store.proofs.Laws.{many-sources, many-receivers, many-walls}

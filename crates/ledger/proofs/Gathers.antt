@@ -20,9 +20,9 @@ use Rattle.road.specs.declared.Pair.the-variants.{Heard}
 use Rattle.road.specs.declared.Pair.the-variants.{Barred as Bars}
 use Rattle.road.specs.Pairs.{Pairing, mostShare, shareIn, Bounded}
 use Rattle.road.proofs.Pairs.{heard-most}
-use Rattle.store.specs.declared.Account.{Account}
+use Rattle.account.specs.declared.Account.{Account}
 use Rattle.level.specs.Level.{top}
-use Rattle.store.specs.Account.{plusOf, room, nothing}
+use Rattle.account.specs.Account.{plusOf, room, nothing}
 use Rattle.store.specs.Store.{sourceCount}
 use Rattle.ledger.specs.declared.round.Stop.the-variants.{Nowhere, At}
 use Rattle.ledger.specs.declared.gather.Gathered.{Gathered}

@@ -23,10 +23,10 @@ use Rattle.road.specs.declared.Pair.the-variants.{Barred as Bars}
 use Rattle.road.specs.declared.Verdict.the-variants.{Allowed}
 use Rattle.road.specs.Judge.{receiverVerdict}
 use Rattle.road.specs.Pairs.{Pairing, mostShare, shareIn, Bounded}
-use Rattle.store.specs.declared.Account.{Account}
+use Rattle.account.specs.declared.Account.{Account}
 use Rattle.store.specs.declared.Held.{Held}
 use Rattle.store.specs.declared.Seat.{Seat}
-use Rattle.store.specs.Account.{plusOf, nothing}
+use Rattle.account.specs.Account.{plusOf, nothing}
 use Rattle.store.specs.Slots.{Each}
 use Rattle.store.specs.Store.{sourceCount, receiverCount, HeldStands}
 use Rattle.ledger.specs.declared.round.Stop.{Stop}

@@ -10,9 +10,9 @@ use Rattle.road.specs.declared.Shares.{Shares}
 use Rattle.road.specs.declared.Pair.{Pair}
 use Rattle.road.specs.declared.Pair.the-variants.{Heard, Barred}
 use Rattle.road.specs.Pairs.{Pairing, isHeard, noShares, brought}
-use Rattle.store.specs.declared.Account.{Account}
+use Rattle.account.specs.declared.Account.{Account}
 use Rattle.store.specs.declared.Held.{Held}
-use Rattle.store.specs.Account.{plusOf, minusOf, covers, room}
+use Rattle.account.specs.Account.{plusOf, minusOf, covers, room}
 use Rattle.ledger.specs.Lists.{firstBar, weigh}
 
 pub record Change : Type 0 where

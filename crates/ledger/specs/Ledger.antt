@@ -23,11 +23,11 @@ use Rattle.level.specs.Level.{top}
 use Rattle.layout.specs.Over.{over}
 use Rattle.screen.specs.declared.Wall.{Wall}
 use Rattle.screen.specs.Screen.{wallNumbers, laid, wallsOf, Laid}
-use Rattle.store.specs.declared.Account.{Account}
+use Rattle.account.specs.declared.Account.{Account}
 use Rattle.store.specs.declared.Held.{Held}
 use Rattle.store.specs.declared.Seat.{Seat}
 use Rattle.store.specs.declared.SourceSlot.{SourceSlot}
-use Rattle.store.specs.Account.{plusOf, sound, nothing}
+use Rattle.account.specs.Account.{plusOf, sound, nothing}
 use Rattle.store.specs.Store.{receiverCount, Book, book, HeldStands}
 use Rattle.ledger.specs.declared.round.Sender.{Sender}
 use Rattle.ledger.specs.declared.round.Turn.{Turn}

@@ -2,12 +2,12 @@
 // What a road sends out is worked out once for each source.
 use crate::round;
 use crate::round::Stop;
+use account::Account;
 use answer::Refusal;
 use road::Bar;
 use road::Pair;
 use road::Receiver;
 use road::Shares;
-use store::Account;
 ghost use mathlib.Core.Path.{_≡_};
 ghost use mathlib.Core.Bool.{false};
 ghost use mathlib.Core.Option.{none};

@@ -1,5 +1,6 @@
 // The round of the receivers for a source that goes and one that comes: what each account would be, before a byte is written.
 // The first pass works every share out once and keeps the seats as they would be; the second pass writes them.
+use account::Account;
 use answer::Refusal;
 use road::Bar;
 use road::Pair;
@@ -7,7 +8,6 @@ use road::Receiver;
 use road::Sent;
 use road::Shares;
 use road::Source;
-use store::Account;
 use store::Held;
 use store::Seat;
 use store::SourceSlot;

@@ -20,10 +20,10 @@ use Rattle.road.specs.Judge.{sourceVerdict, receiverVerdict, wallVerdict}
 use Rattle.road.proofs.Rows.{source-again, source-values-again, all-of}
 use Rattle.road.proofs.Fit.{FitCourse, rest-allowed, source-in-slot, receiver-in-slot, wall-in-slot}
 use Rattle.store.specs.declared.Held.{Held}
-use Rattle.store.specs.Account.{sound}
+use Rattle.account.specs.Account.{sound}
 use Rattle.store.specs.Slots.{partyLayout}
 use Rattle.store.specs.Store.{isAllowed, courseNumbers, courseBits, isCourse, courseFrom, sourceFrom, sourceParty, heldFields, heldFrom, heldParty, wallFrom, wallParty, SourceStands, HeldStands, WallStands}
-use Rattle.store.proofs.Accounts.{sound-le}
+use Rattle.account.proofs.Laws.{sound-le}
 use Rattle.store.proofs.Slots.{Lawful, two-within}
 
 -- ---- sources

@@ -5,21 +5,6 @@ use Rattle.answer.specs.Settled.{Settles, SettlesResult}
 use Rattle.answer.proofs.Settled.{settled}
 use Rattle.store.proofs
 
-sound-settled : SettlesResult proofs.Account.sound.Reads.Post
-sound-settled l a = settled _ _
-
-room-settled : SettlesResult proofs.Account.room.Reads.Post
-room-settled l a = settled _ _
-
-covers-settled : SettlesResult proofs.Account.covers.Reads.Post
-covers-settled l a = settled _ _
-
-plus-settled : SettlesResult proofs.Account.plus.Reads.Post
-plus-settled l a = settled _ _
-
-minus-settled : SettlesResult proofs.Account.minus.Reads.Post
-minus-settled l a = settled _ _
-
 damaged-settled : SettlesResult proofs.damaged.Reads.Post
 damaged-settled l a = settled _ _
 

@@ -1,3 +1,2 @@
-pub mod Account
 pub mod Slots
 pub mod Store

@@ -16,12 +16,12 @@ use Rattle.road.specs.declared.Verdict.{Verdict}
 use Rattle.road.specs.declared.Verdict.the-variants.{Allowed, Refused}
 use Rattle.road.specs.Fields.{pieceTable, endsTable, sourceTable, receiverTable, wallTable, pieceOf, endsOf, sourceOf, receiverOf, valuesBy, slotBitsBy}
 use Rattle.road.specs.Judge.{sourceVerdict, receiverVerdict, wallVerdict}
-use Rattle.store.specs.declared.Account.{Account}
+use Rattle.account.specs.declared.Account.{Account}
 use Rattle.store.specs.declared.Held.{Held}
 use Rattle.store.specs.declared.SourceSlot.{SourceSlot}
 use Rattle.store.specs.declared.Seat.{Seat}
 use Rattle.store.specs.declared.WallSlot.{WallSlot}
-use Rattle.store.specs.Account.{sound}
+use Rattle.account.specs.Account.{sound}
 use Rattle.store.specs.Slots.{Party, partyLayout, slotSize, found, entries, anyTorn, bytes, Each}
 
 -- ---- how many slots there are: each number is said here and, for the code, in src/lib.rt

@@ -5,18 +5,13 @@ mod slot;
 pub mod sources;
 pub mod walls;
 
+use account::Account;
 use road::Receiver;
-use road::Shares;
 use road::Source;
 use screen::Wall;
 ghost use mathlib.Core.Path.{_≡_};
-ghost use mathlib.Core.Bool.{true};
 ghost use lib.ListN.{length};
-ghost use lib.Dec.{leb};
-ghost use Prim.Native.Nat.{_+_};
 ghost use Rattle.level.specs.Table.{table};
-ghost use Rattle.level.specs.Level.{top};
-ghost use Rattle.store.specs.Account.{sound, plusOf, minusOf, covers, room};
 ghost use Rattle.store.specs.Store.{storeLength, damaged, clearedBytes};
 
 // How many source slots, receiver slots and wall slots a book has.
@@ -49,16 +44,6 @@ pub const WALLS_BEGIN: usize = SPLIT + RECEIVERS * RECEIVER_SIZE;
 // The bytes of a store.
 pub const LENGTH: usize = WALLS_BEGIN + WALLS * WALL_SIZE;
 
-// The most that a sum may be.
-const TOP: u64 = 512_000_000_000_000_000;
-
-// Three energy sums.
-pub struct Account {
-    pub day: u64,
-    pub evening: u64,
-    pub night: u64,
-}
-
 // A receiver in use with its account.
 pub struct Held {
     pub who: Receiver,
@@ -81,63 +66,6 @@ pub struct Seat {
 pub struct WallSlot {
     pub used: bool,
     pub wall: Wall,
-}
-
-// Whether two numbers add up to at most TOP.
-fn fits(x: u64, y: u64) -> bool
-    ensures { λ r. ⌜ r ≡ leb (x + y) top ⌝ }
-{
-    if TOP < x {
-        return false;
-    }
-    y <= TOP - x
-}
-
-impl Account {
-    // Whether no sum is above TOP.
-    pub fn sound(self) -> bool
-        ensures { λ r. ⌜ r ≡ sound self ⌝ }
-    {
-        (self.day <= TOP) & (self.evening <= TOP) & (self.night <= TOP)
-    }
-
-    // Whether the shares lift no sum above TOP.
-    pub fn room(self, s: Shares) -> bool
-        ensures { λ r. ⌜ r ≡ room self s ⌝ }
-    {
-        fits(self.day, s.day) & fits(self.evening, s.evening) & fits(self.night, s.night)
-    }
-
-    // Whether no share is above its sum.
-    pub fn covers(self, s: Shares) -> bool
-        ensures { λ r. ⌜ r ≡ covers self s ⌝ }
-    {
-        (s.day <= self.day) & (s.evening <= self.evening) & (s.night <= self.night)
-    }
-
-    // The account with the shares added.
-    pub fn plus(self, s: Shares) -> Account
-        requires { ⌜ room self s ≡ true ⌝ }
-        ensures { λ r. ⌜ r ≡ plusOf self s ⌝ }
-    {
-        Account {
-            day: self.day + s.day,
-            evening: self.evening + s.evening,
-            night: self.night + s.night,
-        }
-    }
-
-    // The account with the shares taken off.
-    pub fn minus(self, s: Shares) -> Account
-        requires { ⌜ covers self s ≡ true ⌝ }
-        ensures { λ r. ⌜ r ≡ minusOf self s ⌝ }
-    {
-        Account {
-            day: self.day - s.day,
-            evening: self.evening - s.evening,
-            night: self.night - s.night,
-        }
-    }
 }
 
 // Whether the store is damaged.

@@ -1,12 +1,12 @@
 // Receiver slots, after the source slots.
 // Numbers are those of a slot, its use mark first.
-use crate::Account;
 use crate::Held;
 use crate::RECEIVER_SIZE;
 use crate::RECEIVERS;
 use crate::SPLIT;
 use crate::Seat;
 use crate::slot;
+use account::Account;
 use fields::BYTES;
 use fields::RECEIVER;
 use road::Verdict;

@@ -5,7 +5,7 @@ use native.Mathlib.Omega.{arith}
 use borrow.Author.Needs.{needs}
 use borrow.Author.Tests.{le-leb}
 use Rattle.level.specs.Level.{top}
-use Rattle.store.specs.declared.Account.{Account}
+use Rattle.account.specs.declared.Account.{Account}
 use Rattle.ledger.specs.Ledger.{tally}
 use Rattle.afresh.proofs.add.Statement.{statement}
 use Rattle.afresh.proofs.add.Tie as tie

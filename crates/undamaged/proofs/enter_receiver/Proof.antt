@@ -12,7 +12,7 @@ use Rattle.ledger.specs.Ledger.{Gathering}
 use Rattle.answer.specs.declared.Refusal.{Refusal}
 use Rattle.road.specs.declared.Source.{Source}
 use Rattle.road.specs.declared.Receiver.{Receiver}
-use Rattle.store.specs.declared.Account.{Account}
+use Rattle.account.specs.declared.Account.{Account}
 use Rattle.store.specs.declared.Held.{Held}
 use Rattle.store.specs.Store.{book, bookOf, bookBytes}
 use Rattle.store.proofs.Laws.{undamaged, set-held}

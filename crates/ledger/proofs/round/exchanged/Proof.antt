@@ -6,8 +6,8 @@ use borrow.Author.Needs.{needs}
 use borrow.Author.Tests.{not-true, not-false}
 use Rattle.road.specs.declared.Shares.{Shares}
 use Rattle.road.specs.declared.Pair.{Pair}
-use Rattle.store.specs.declared.Account.{Account}
-use Rattle.store.specs.Account.{plusOf, minusOf, covers, room}
+use Rattle.account.specs.declared.Account.{Account}
+use Rattle.account.specs.Account.{plusOf, minusOf, covers, room}
 use Rattle.ledger.specs.declared.round.Turn.{Turn}
 use Rattle.ledger.specs.declared.round.Turn.the-variants.{Moved, Late}
 use Rattle.ledger.specs.Ledger.{exchangedBy}

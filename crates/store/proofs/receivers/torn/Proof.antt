@@ -8,7 +8,7 @@ use lib.ListN.{getD}
 use Rattle.road.specs.declared.Verdict.{Verdict}
 use Rattle.road.specs.Judge.{receiverVerdict}
 use Rattle.store.specs.declared.Held.{Held}
-use Rattle.store.specs.Account.{sound}
+use Rattle.account.specs.Account.{sound}
 use Rattle.store.specs.Slots.{slotBy, isTorn}
 use Rattle.store.specs.Store.{isAllowed, heldFrom, heldParty}
 use Rattle.store.proofs.Slots.{torn-unmarked, torn-marked}

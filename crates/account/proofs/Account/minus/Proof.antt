@@ -1,10 +1,10 @@
 -- `Account::minus` takes off what the sums cover.
 -- Assumes nothing.
 use native.Mathlib.Omega.{arith}
-use Rattle.store.proofs.Accounts.{covers-le}
+use Rattle.account.proofs.Laws.{covers-le}
 use borrow.Author.Needs.{needs}
-use Rattle.store.proofs.Account.minus.Statement.{statement}
-use Rattle.store.proofs.Account.minus.Tie as tie
+use Rattle.account.proofs.Account.minus.Statement.{statement}
+use Rattle.account.proofs.Account.minus.Tie as tie
 
 sub-t3 : tie.Need-sub-t3
 sub-t3 c = let a = c .before .before in omega (arith, covers-le (a .args .self) (a .args .s) (a .pre))

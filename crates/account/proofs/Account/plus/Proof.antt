@@ -1,11 +1,11 @@
 -- `Account::plus` adds what has room.
 -- Assumes nothing.
 use native.Mathlib.Omega.{arith}
-use Rattle.store.specs.Account.{plusOf}
-use Rattle.store.proofs.Accounts.{sound-le}
+use Rattle.account.specs.Account.{plusOf}
+use Rattle.account.proofs.Laws.{sound-le}
 use borrow.Author.Needs.{needs}
-use Rattle.store.proofs.Account.plus.Statement.{statement}
-use Rattle.store.proofs.Account.plus.Tie as tie
+use Rattle.account.proofs.Account.plus.Statement.{statement}
+use Rattle.account.proofs.Account.plus.Tie as tie
 
 add-t3 : tie.Need-add-t3
 add-t3 c = let a = c .before .before in omega (arith, sound-le (plusOf (a .args .self) (a .args .s)) (a .pre))

@@ -1,8 +1,8 @@
 -- `Account::room` tests each of the three sums.
 -- Assumes nothing.
 use borrow.Author.Needs.{needs}
-use Rattle.store.proofs.Account.room.Statement.{statement}
-use Rattle.store.proofs.Account.room.Tie as tie
+use Rattle.account.proofs.Account.room.Statement.{statement}
+use Rattle.account.proofs.Account.room.Tie as tie
 
 fits-requires : tie.Need-fits-requires
 fits-requires c κs = search needs

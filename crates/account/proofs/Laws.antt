@@ -8,9 +8,9 @@ use borrow.Author.Tests.{leb-true, le-leb, lt-leb}
 use lib.Dec.{leb}
 use Rattle.layout.proofs.Bounds.{both}
 use Rattle.road.specs.declared.Shares.{Shares}
-use Rattle.store.specs.declared.Account.{Account}
+use Rattle.account.specs.declared.Account.{Account}
 use Rattle.level.specs.Level.{top}
-use Rattle.store.specs.Account.{sound, plusOf, minusOf, covers}
+use Rattle.account.specs.Account.{sound, plusOf, minusOf, covers}
 
 -- three tests on pairs of numbers
 three : (a b c d e f : ℕ) → (leb a b && leb c d && leb e f) ≡ true → (a ≤ b) × (c ≤ d) × (e ≤ f)

@@ -5,9 +5,9 @@ use mathlib.Core.Path.{sym}
 use native.Mathlib.Omega.{arith}
 use borrow.Author.Tests.{lt-leb}
 use Rattle.level.specs.Level.{top}
-use Rattle.store.proofs.Accounts.{leaves}
-use Rattle.store.proofs.fits.Statement.{statement}
-use Rattle.store.proofs.fits.Tie as tie
+use Rattle.account.proofs.Laws.{leaves}
+use Rattle.account.proofs.fits.Statement.{statement}
+use Rattle.account.proofs.fits.Tie as tie
 
 returns : tie.Need-returns
 returns c = sym (lt-leb (c .before .args .x + c .before .args .y) top (omega arith))

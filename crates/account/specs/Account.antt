@@ -5,7 +5,7 @@ use mathlib.Core.Bool.{Bool, _&&_}
 use lib.Dec.{leb}
 use Rattle.level.specs.Level.{top}
 use Rattle.road.specs.declared.Shares.{Shares}
-use Rattle.store.specs.declared.Account.{Account}
+use Rattle.account.specs.declared.Account.{Account}
 
 -- no sum is above it
 abbrev pub sound : Account → Bool

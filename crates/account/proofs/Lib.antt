@@ -1,0 +1,3 @@
+-- Laws of accounts, and that each function settles its outcome.
+pub mod Laws
+pub mod Settled
