@@ -309,26 +309,33 @@ static void withdraw_wall(struct bits *bits)
     sum_all_up();
 }
 
-static void change_source(struct source *s, double sign)
+/* Exchanges what stands in a slot for another source in one round; either may be unused. */
+static void exchange(struct source *s, const struct source *comes)
 {
     gather_walls();
-    for (int slot = 0; slot < RECEIVERS; slot++)
-        if (receivers[slot].used)
-            account(s, &receivers[slot], sign);
+    for (int slot = 0; slot < RECEIVERS; slot++) {
+        if (!receivers[slot].used)
+            continue;
+        if (s->used)
+            account(s, &receivers[slot], -1);
+        if (comes->used)
+            account(comes, &receivers[slot], 1);
+    }
+    *s = *comes;
 }
 
 static void place_source(struct bits *bits, long kind)
 {
     struct source *s = &sources[take(bits, 9)];
-    read_source(s, bits, kind);
-    change_source(s, 1);
+    struct source comes = {0};
+    read_source(&comes, bits, kind);
+    exchange(s, &comes);
 }
 
 static void withdraw_source(struct bits *bits)
 {
-    struct source *s = &sources[take(bits, 9)];
-    change_source(s, -1);
-    s->used = 0;
+    static const struct source none;
+    exchange(&sources[take(bits, 9)], &none);
 }
 
 /* What a period brings to the whole day: nothing while it is quiet. */

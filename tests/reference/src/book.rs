@@ -1,5 +1,6 @@
 // The book: sources, receivers and walls in their slots, and what each receiver has gathered.
-// A refused call changes nothing, so every call finds out all it needs before it writes.
+// Placing into a used slot exchanges the entry there. A refused call changes nothing, so every call
+// finds out all it needs before it writes.
 
 use crate::daily::{judge_daily, Daily};
 use crate::fields::{RECEIVERS, RECEIVER_SLOT, SOURCES, SOURCE_SLOT, WALLS, WALL_SLOT};
@@ -92,11 +93,15 @@ impl Book {
         others.flatten().copied().collect()
     }
 
-    /// Shares of a source at every standing receiver, or the first refused pair.
-    fn round(&self, source: &Source) -> Result<Round, Refusal> {
+    /// Shares of a source at every standing receiver, or the first refused pair; without a source
+    /// there are none.
+    fn round(&self, source: Option<&Source>) -> Result<Round, Refusal> {
+        let mut round = [[0; 3]; RECEIVERS];
+        let Some(source) = source else {
+            return Ok(round);
+        };
         let walls = self.standing_walls();
         let sent = emission(source);
-        let mut round = [[0; 3]; RECEIVERS];
         for (slot, account) in self.accounts.iter().enumerate() {
             if let Some(account) = account {
                 round[slot] = shares(source, &sent, &account.receiver, &walls)
@@ -106,14 +111,16 @@ impl Book {
         Ok(round)
     }
 
-    /// The sums after a change of every receiver's, or the late 1 if one leaves its bounds.
-    fn changed_sums(&self, round: &Round, sign: i64) -> Result<Round, Refusal> {
+    /// The sums after one round came off and another one was put on, or the late 1 if there is less
+    /// than what comes off, or no room for what is put on.
+    fn exchanged_sums(&self, off: &Round, on: &Round) -> Result<Round, Refusal> {
         let mut sums = [[0; 3]; RECEIVERS];
         for (slot, account) in self.accounts.iter().enumerate() {
             let Some(account) = account else { continue };
             for period in 0..3 {
-                let sum = account.sums[period] + sign * round[slot][period];
-                if !(0..=TOP).contains(&sum) {
+                let left = account.sums[period] - off[slot][period];
+                let sum = left + on[slot][period];
+                if left < 0 || sum > TOP {
                     return Err(DAMAGED);
                 }
                 sums[slot][period] = sum;
@@ -130,17 +137,22 @@ impl Book {
         }
     }
 
+    /// Exchanges what stands in a source slot, if anything, for what comes there, if anything. The
+    /// pairs of what comes are tried first.
+    fn exchange_source(&mut self, slot: usize, comes: Option<Source>) -> Result<(), Refusal> {
+        let on = self.round(comes.as_ref())?;
+        let goes = self.sources[slot].as_ref();
+        let off = self.round(goes).map_err(|_| DAMAGED)?;
+        let sums = self.exchanged_sums(&off, &on)?;
+        self.set_sums(&sums);
+        self.sources[slot] = comes;
+        Ok(())
+    }
+
     pub fn place_source(&mut self, slot: i64, source: &Source) -> Result<(), Refusal> {
         judge_value(slot, &SOURCE_SLOT)?;
         judge_source(source)?;
-        if self.sources[slot as usize].is_some() {
-            return Err(refusal(8));
-        }
-        let round = self.round(source)?;
-        let sums = self.changed_sums(&round, 1)?;
-        self.set_sums(&sums);
-        self.sources[slot as usize] = Some(*source);
-        Ok(())
+        self.exchange_source(slot as usize, Some(*source))
     }
 
     /// Places the source that a daily figure stands for.
@@ -152,20 +164,15 @@ impl Book {
 
     pub fn withdraw_source(&mut self, slot: i64) -> Result<(), Refusal> {
         judge_value(slot, &SOURCE_SLOT)?;
-        let source = self.sources[slot as usize].ok_or(refusal(9))?;
-        let round = self.round(&source).map_err(|_| DAMAGED)?;
-        let sums = self.changed_sums(&round, -1)?;
-        self.set_sums(&sums);
-        self.sources[slot as usize] = None;
-        Ok(())
+        if self.sources[slot as usize].is_none() {
+            return Err(refusal(9));
+        }
+        self.exchange_source(slot as usize, None)
     }
 
     pub fn place_receiver(&mut self, slot: i64, receiver: &Receiver) -> Result<(), Refusal> {
         judge_value(slot, &RECEIVER_SLOT)?;
         judge_receiver(receiver)?;
-        if self.accounts[slot as usize].is_some() {
-            return Err(refusal(8));
-        }
         let sums = self.gathered(receiver)?;
         self.accounts[slot as usize] = Some(Account {
             receiver: *receiver,
@@ -188,18 +195,20 @@ impl Book {
         Ok(sums)
     }
 
+    /// Exchanges what stands in a wall slot, if anything, for what comes there, if anything.
+    fn exchange_wall(&mut self, slot: usize, comes: Option<Wall>) -> Result<(), Refusal> {
+        let mut walls = self.walls_but(slot);
+        walls.extend(comes);
+        let sums = self.afresh(&walls)?;
+        self.set_sums(&sums);
+        self.walls[slot] = comes;
+        Ok(())
+    }
+
     pub fn place_wall(&mut self, slot: i64, wall: &Wall) -> Result<(), Refusal> {
         judge_value(slot, &WALL_SLOT)?;
         judge_wall(wall)?;
-        if self.walls[slot as usize].is_some() {
-            return Err(refusal(8));
-        }
-        let mut walls = self.standing_walls();
-        walls.push(*wall);
-        let sums = self.afresh(&walls)?;
-        self.set_sums(&sums);
-        self.walls[slot as usize] = Some(*wall);
-        Ok(())
+        self.exchange_wall(slot as usize, Some(*wall))
     }
 
     pub fn withdraw_wall(&mut self, slot: i64) -> Result<(), Refusal> {
@@ -207,10 +216,7 @@ impl Book {
         if self.walls[slot as usize].is_none() {
             return Err(refusal(9));
         }
-        let sums = self.afresh(&self.walls_but(slot as usize))?;
-        self.set_sums(&sums);
-        self.walls[slot as usize] = None;
-        Ok(())
+        self.exchange_wall(slot as usize, None)
     }
 
     /// The sums of every standing receiver with these walls, or the receiver of the first pair that

@@ -11,6 +11,7 @@ use crate::fields::{
     PARALLEL_SPACING, PARALLEL_WALLS, RECEIVERS, RECEIVER_FIELDS, SOURCES, SOURCE_SLOT, STEEPEST,
     SURFACE, TRUCKS, TRUCK_SPEED, VEHICLES, WALLS, WALL_FIELDS, WALL_HEIGHT,
 };
+use crate::fixed_exchanges::{exchange_example, exchange_frames};
 use crate::level::FAINTEST;
 use crate::limits::{trial_values, PAPER_LENGTHS, TURNING_SPEEDS};
 use crate::probe::{Frame, LONGEST_IMAGE};
@@ -66,7 +67,7 @@ pub(crate) fn with_ends(source: Source) -> Source {
 }
 
 /// A source between two ends that is cut before the receiver of the worked case.
-fn cut_source() -> Source {
+pub(crate) fn cut_source() -> Source {
     with_ends(walled_source().uncut(2600))
 }
 
@@ -74,7 +75,10 @@ fn cut_source() -> Source {
 /// receiver; where it stands; and a wall that is far from both.
 pub const HALFWAY_WALL: Wall = Wall::new(101_250, 99_000, 101_250, 101_000, 400);
 const STANDING: i64 = 2;
-const FAR_WALL: Wall = Wall::new(5_000_000, 6_000_000, 5_003_000, 6_004_000, 250);
+pub(crate) const FAR_WALL: Wall = Wall::new(5_000_000, 6_000_000, 5_003_000, 6_004_000, 250);
+
+/// A low wall that cannot stand together with the wall halfway.
+pub(crate) const SECOND_WALL: Wall = Wall::new(101_000, 99_000, 101_000, 101_000, 1);
 
 /// Records that place a source: with its traffic, by a daily figure as a federal road has it, and
 /// between two ends.
@@ -86,7 +90,7 @@ fn every_way(source: Source) -> [Record; 3] {
     ]
 }
 
-fn bytes_of(records: &[Record]) -> Vec<u8> {
+pub(crate) fn bytes_of(records: &[Record]) -> Vec<u8> {
     records.iter().flat_map(Record::bytes).collect()
 }
 
@@ -102,11 +106,10 @@ pub fn example() -> Vec<u8> {
 
 /// The same job with a wall halfway that comes and goes, and a second one that cannot come.
 pub fn walled_example() -> Vec<u8> {
-    let second = Wall::new(101_000, 99_000, 101_000, 101_000, 1);
     let walls = bytes_of(&[
         Record::PlaceWall(0, HALFWAY_WALL),
         Record::Ask(5),
-        Record::PlaceWall(1, second),
+        Record::PlaceWall(1, SECOND_WALL),
         Record::WithdrawWall(0),
         Record::Ask(5),
         Record::WithdrawWall(0),
@@ -253,7 +256,7 @@ const WORKED_ENDS: [[i64; 4]; 18] = [
 ];
 
 /// A source as loud as there is.
-fn loudest_source() -> Source {
+pub(crate) fn loudest_source() -> Source {
     let mut source = Source {
         car_speed: CAR_SPEED.most(),
         truck_speed: TRUCK_SPEED.most(),
@@ -326,6 +329,21 @@ const WORKED_WALLS: [Wall; 28] = [
     Wall::new(0, 0, FARTHEST, FARTHEST, 400),
     Wall::new(90_000, 99_999, 120_000, 100_001, 400),
 ];
+
+/// Records that place every one of these walls into one slot, with each of two others in a second one,
+/// and those of the worked case at every height.
+fn walls_in_place() -> Vec<Record> {
+    let far = example_source().moved(110_000, 100_000);
+    let mut records = vec![Record::PlaceSource(0, far)];
+    for wall in WORKED_WALLS {
+        records.push(Record::PlaceWall(0, wall));
+        records.extend([WORKED_WALLS[7], FAR_WALL].map(|other| Record::PlaceWall(1, other)));
+    }
+    records.push(Record::PlaceSource(0, example_source()));
+    let halfway = halfway_walls().into_iter();
+    records.extend(halfway.map(|wall| Record::PlaceWall(0, wall)));
+    records
+}
 
 /// The wall halfway in the worked case, where hD is 2250 and the ground takes nothing, at heights about
 /// hD and all others worth trying.
@@ -553,6 +571,29 @@ fn parade(records: &[Record]) -> Vec<u8> {
     bytes_of(&job)
 }
 
+/// A job that tries one record after the other in the worked case, each in place of the one before,
+/// and asks the receiver after it. What is withdrawn is placed anew.
+fn parade_in_place(records: &[Record]) -> Vec<u8> {
+    let ask = Record::Ask(5);
+    let stays = [
+        Record::PlaceReceiver(5, example_receiver()),
+        Record::PlaceSource(0, example_source()),
+        Record::PlaceWall(STANDING, FAR_WALL),
+    ];
+    let mut job = stays.to_vec();
+    for &record in records {
+        job.extend([record, ask]);
+        match record {
+            Record::WithdrawReceiver(_) | Record::PlaceReceiver(5, _) => job.push(stays[0]),
+            Record::WithdrawSource(_) => job.push(stays[1]),
+            Record::WithdrawWall(_) => job.push(stays[2]),
+            Record::PlaceReceiver(slot, _) => job.push(Record::Ask(slot)),
+            _ => {}
+        }
+    }
+    bytes_of(&job)
+}
+
 /// Records that place such sources into the last slot.
 pub(crate) fn surfaced_records() -> Vec<Record> {
     let places = surfaced_sources().into_iter().flat_map(every_way);
@@ -573,6 +614,11 @@ pub fn fixed_jobs() -> Vec<Vec<u8>> {
         parade(&trial_records(|field| field.bits)),
         parade(&surfaced_records()),
         parade(&worked_records()),
+        exchange_example(),
+        parade_in_place(&trial_records(|field| field.bits)),
+        parade_in_place(&surfaced_records()),
+        parade_in_place(&worked_records()),
+        parade_in_place(&walls_in_place()),
         walled_job(),
         halfway_job(),
         crowded_job(),
@@ -585,7 +631,7 @@ pub fn fixed_jobs() -> Vec<Vec<u8>> {
 }
 
 /// The stored state of the worked case, with a source more that is cut and a wall before both.
-fn example_image() -> Vec<u8> {
+pub(crate) fn example_image() -> Vec<u8> {
     let mut book = Book::cleared();
     let placed = book
         .place_receiver(5, &example_receiver())
@@ -616,7 +662,7 @@ fn record_frames() -> Vec<Frame> {
 }
 
 /// A stored state with one record after the other.
-fn frames_on(image: &[u8], records: &[Record]) -> Vec<Frame> {
+pub(crate) fn frames_on(image: &[u8], records: &[Record]) -> Vec<Frame> {
     let frame = |record: &Record| Frame {
         image: image.to_vec(),
         record: record.bytes(),
@@ -857,6 +903,7 @@ pub fn fixed_frames() -> Vec<Frame> {
     frames.extend(course_frames());
     frames.extend(wall_frames());
     frames.extend(far_frames());
+    frames.extend(exchange_frames());
     frames.extend(paired_frames());
     frames.extend(byte_frames());
     frames.extend(length_frames());

@@ -6,6 +6,7 @@ use crate::book::{decode, mean_energy, Account, Book, TOP};
 use crate::chance::Chance;
 use crate::course::Course;
 use crate::cuts::{pair, receiver_beside, span, spanned};
+use crate::exchanges::{earlier_receiver, earlier_source};
 use crate::faint::{road_of_level, FAINT_LEVELS};
 use crate::fields::{
     FARTHEST, HEIGHT, LENGTH, RECEIVERS, RECEIVER_SLOT, SOURCES, SOURCE_SLOT, TRUCKS, VEHICLES,
@@ -28,12 +29,12 @@ use crate::town::{placing, road, traffic, Town, WIDE};
 use crate::wall::Wall;
 
 /// What a source brings to a receiver past the walls; nothing where the pair is refused.
-fn heard_of(source: &Source, receiver: &Receiver, walls: &[Wall]) -> [i64; 3] {
+pub(crate) fn heard_of(source: &Source, receiver: &Receiver, walls: &[Wall]) -> [i64; 3] {
     shares(source, &emission(source), receiver, walls).unwrap_or([0; 3])
 }
 
 /// Sums that leave room for a share more and a share less.
-fn ample(chance: &mut Chance) -> [i64; 3] {
+pub(crate) fn ample(chance: &mut Chance) -> [i64; 3] {
     [(); 3].map(|()| chance.between(TOP / 4, TOP / 2))
 }
 
@@ -84,7 +85,7 @@ pub(crate) fn high_sum(chance: &mut Chance) -> Frame {
 
 /// A distance at which a source of this length is too near, too far, too long or too loud,
 /// or at which it is mostly accepted.
-fn distance(chance: &mut Chance, length: i64, accepted: bool) -> i64 {
+pub(crate) fn distance(chance: &mut Chance, length: i64, accepted: bool) -> i64 {
     let (nearest, farthest) = (root(NEAREST_SQUARE), root(FARTHEST_SQUARE));
     if accepted {
         return chance.between(farthest / 5, farthest * 2 / 3);
@@ -106,7 +107,7 @@ fn step(chance: &mut Chance, distance: i64) -> (i64, i64) {
 }
 
 /// A receiver so far from an uncut source, or beside one between two ends.
-fn receiver_at(chance: &mut Chance, source: &Source, distance: i64) -> Receiver {
+pub(crate) fn receiver_at(chance: &mut Chance, source: &Source, distance: i64) -> Receiver {
     let Course::Uncut { middle, .. } = source.course else {
         return receiver_beside(chance, &source.course, distance);
     };
@@ -119,7 +120,7 @@ fn receiver_at(chance: &mut Chance, source: &Source, distance: i64) -> Receiver 
 }
 
 /// A loud road with room around it and much traffic in one period at least.
-fn meeting_road(chance: &mut Chance) -> Source {
+pub(crate) fn meeting_road(chance: &mut Chance) -> Source {
     let mut source = loud_road(chance).uncut(chance.between(HALF_NEAREST, 10 * HALF_NEAREST));
     if chance.one_in(3) {
         let length = HALF_NEAREST + chance.magnitude(LENGTH.most() - HALF_NEAREST);
@@ -137,7 +138,7 @@ fn meeting_road(chance: &mut Chance) -> Source {
 }
 
 /// The same source with its ends no farther than where the map ends.
-fn on_the_map(source: Source) -> Source {
+pub(crate) fn on_the_map(source: Source) -> Source {
     let Course::Between { first, second } = source.course else {
         return source;
     };
@@ -201,7 +202,7 @@ fn clear_most(chance: &mut Chance, book: &mut Book) {
 }
 
 /// A wall before a source and a receiver that stand, or anywhere in a town.
-fn some_wall(chance: &mut Chance, book: &Book, town: &Town) -> Wall {
+pub(crate) fn some_wall(chance: &mut Chance, book: &Book, town: &Town) -> Wall {
     let at = slot_in(chance, &book.accounts, true);
     let source = book.sources[slot_in(chance, &book.sources, true)];
     match (book.accounts[at], source) {
@@ -210,11 +211,15 @@ fn some_wall(chance: &mut Chance, book: &Book, town: &Town) -> Wall {
     }
 }
 
-/// A call on a wall that mostly finds its slot as it needs it.
+/// A call on a wall, which is mostly there when it is to go.
 pub(crate) fn wall_call(chance: &mut Chance, book: &Book, town: &Town) -> Record {
-    let fits = !chance.one_in(8);
     let leaves = chance.one_in(2) && book.walls.iter().any(Option::is_some);
-    let slot = slot_in(chance, &book.walls, leaves == fits) as i64;
+    let used = if leaves {
+        !chance.one_in(8)
+    } else {
+        chance.one_in(3)
+    };
+    let slot = slot_in(chance, &book.walls, used) as i64;
     match leaves {
         true => Record::WithdrawWall(slot),
         false => Record::PlaceWall(slot, some_wall(chance, book, town)),
@@ -222,7 +227,8 @@ pub(crate) fn wall_call(chance: &mut Chance, book: &Book, town: &Town) -> Record
 }
 
 /// Receivers, sources and walls aimed between them, of which any may be barred: by two walls, by
-/// their distance or as too loud; sums that are right, or anything; and a call on any of them.
+/// their distance or as too loud; sums that are right, or anything; and a call on any of them. What is
+/// placed comes into a free slot, or where another one stands.
 pub(crate) fn screened(chance: &mut Chance) -> Frame {
     let (receiver, source) = screened_pair(chance);
     let mut book = Book::cleared();
@@ -239,13 +245,18 @@ pub(crate) fn screened(chance: &mut Chance) -> Frame {
         add_neighbours(chance, &mut book, &receiver, &source);
     }
     let town = Town::of_width(chance, WIDE);
+    let used = chance.one_in(2);
     let record = match chance.between(0, 5) {
         0 => {
-            book.accounts[r as usize] = None;
+            let before = Account {
+                receiver: earlier_receiver(chance, &receiver),
+                sums,
+            };
+            book.accounts[r as usize] = used.then_some(before);
             Record::PlaceReceiver(r, receiver)
         }
         1 => {
-            book.sources[s as usize] = None;
+            book.sources[s as usize] = used.then_some(earlier_source(chance, &receiver));
             place
         }
         2 => Record::WithdrawSource(s),
@@ -264,7 +275,12 @@ pub(crate) fn screened_sums(chance: &mut Chance) -> Frame {
 }
 
 /// Adds receivers beside one and sources beside another, so that a call meets more than one pair.
-fn add_neighbours(chance: &mut Chance, book: &mut Book, receiver: &Receiver, source: &Source) {
+pub(crate) fn add_neighbours(
+    chance: &mut Chance,
+    book: &mut Book,
+    receiver: &Receiver,
+    source: &Source,
+) {
     for _ in 0..chance.between(1, 3) {
         let mut beside = *receiver;
         beside.x = (beside.x + chance.between(-3000, 3000)).clamp(0, FARTHEST);
@@ -363,23 +379,32 @@ pub(crate) fn met_by_receiver(chance: &mut Chance) -> Frame {
     frame_of(&book, &Record::PlaceReceiver(slot as i64, receiver))
 }
 
-/// One pair in an otherwise empty book, the second party still to be placed, or the source
-/// to be withdrawn although the pair may be none that is accepted.
+/// One pair in an otherwise empty book, the second party still to be placed, sometimes where another
+/// one stands; or the source to be withdrawn, or another one placed there, although the pair may be
+/// none that is accepted.
 fn lone_pair(chance: &mut Chance, receiver: Receiver, place: Record) -> Frame {
     let mut book = Book::cleared();
     let (r, s) = (chance.edge_in(&RECEIVER_SLOT), chance.edge_in(&SOURCE_SLOT));
     let sums = ample(chance);
-    let act = chance.between(0, 2);
-    if act != 0 {
-        book.accounts[r as usize] = Some(Account { receiver, sums });
-    }
-    if act != 1 {
-        book.sources[s as usize] = place.source();
-    }
-    let record = match act {
-        0 => Record::PlaceReceiver(r, receiver),
-        1 => place.with(&SOURCE_SLOT, s),
-        _ => Record::WithdrawSource(s),
+    let used = chance.one_in(2);
+    let earlier = earlier_source(chance, &receiver);
+    book.accounts[r as usize] = Some(Account { receiver, sums });
+    book.sources[s as usize] = place.source();
+    let record = match chance.between(0, 5) {
+        0 | 1 => {
+            let before = Account {
+                receiver: earlier_receiver(chance, &receiver),
+                sums,
+            };
+            book.accounts[r as usize] = used.then_some(before);
+            Record::PlaceReceiver(r, receiver)
+        }
+        2 | 3 => {
+            book.sources[s as usize] = used.then_some(earlier);
+            place.with(&SOURCE_SLOT, s)
+        }
+        4 => Record::WithdrawSource(s),
+        _ => placing(chance, s, earlier),
     };
     frame_of(&book, &record)
 }
@@ -418,17 +443,22 @@ fn tight_sums(chance: &mut Chance, mut book: Book, frame: Frame) -> Frame {
     let Ok((record, _)) = take(&frame.record) else {
         return frame;
     };
-    let (source, most) = match record {
-        Record::WithdrawSource(slot) => (book.sources[slot as usize], false),
-        _ => (record.source(), true),
+    let comes = record.source();
+    let goes = match record {
+        Record::WithdrawSource(slot)
+        | Record::PlaceSource(slot, _)
+        | Record::PlaceDaily(slot, _) => book.sources[slot as usize],
+        _ => None,
     };
     let walls = book.standing_walls();
     for account in book.accounts.iter_mut().flatten() {
         let heard = |source: Source| heard_of(&source, &account.receiver, &walls);
-        let shares = source.map_or([0; 3], heard);
+        let [off, on] = [goes, comes].map(|source| source.map_or([0; 3], heard));
         let period = chance.index(3);
-        let share = shares[period] + chance.pick(&[-1, -1, 0, 1]);
-        account.sums[period] = if most { TOP - share } else { share }.clamp(0, TOP);
+        let step = chance.pick(&[-1, -1, 0, 1]);
+        let most = goes.is_none() || (comes.is_some() && chance.one_in(2));
+        let sum = if most { TOP - on[period] - step } else { step };
+        account.sums[period] = (sum + off[period]).clamp(0, TOP);
     }
     frame_of(&book, &record)
 }

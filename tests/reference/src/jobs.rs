@@ -5,6 +5,7 @@ use crate::aims::{loud_behind_a_wall, screened_pair, wall_before};
 use crate::chance::Chance;
 use crate::cuts::{corner_roads, receiver_beside, stretched_roads, MAKERS};
 use crate::daily::Daily;
+use crate::exchanges::{earlier_receiver, earlier_source, exchange_in, wall_for};
 use crate::faint::{roads_on_the_verge, valley, Valley, FAINT_LEVELS};
 use crate::fields::{
     widest, CLASS, DTV, FARTHEST, HEIGHT, LENGTH, RECEIVERS, RECEIVER_SLOT, SOURCES, SOURCE_SLOT,
@@ -25,7 +26,7 @@ use crate::town::{any_road, by_day, placing, road, traffic, Draft, Town, WIDE};
 /// What makes one kind of job.
 type Maker = fn(&mut Chance) -> Vec<u8>;
 
-const KINDS: [Maker; 27] = [
+const KINDS: [Maker; 29] = [
     town,
     churn,
     crowd,
@@ -53,6 +54,8 @@ const KINDS: [Maker; 27] = [
     screened,
     walled_town,
     loud_walled,
+    exchanged,
+    exchanged,
 ];
 
 /// The job a seed stands for.
@@ -157,10 +160,16 @@ fn try_pair(draft: &mut Draft, chance: &mut Chance, receiver: Receiver, source: 
     try_placings(draft, chance, receiver, place);
 }
 
-/// Puts a receiver and what places a source into slots of their own, in either order, asks and
-/// takes both away again.
+/// Puts a receiver and what places a source into slots of their own, in either order, every other time
+/// where others stand; asks and takes both away again.
 fn try_placings(draft: &mut Draft, chance: &mut Chance, receiver: Receiver, place: Record) {
     let (r, s) = (chance.edge_in(&RECEIVER_SLOT), chance.edge_in(&SOURCE_SLOT));
+    if chance.one_in(2) {
+        let earlier = earlier_receiver(chance, &receiver);
+        draft.put(Record::PlaceReceiver(r, earlier));
+        draft.put(Record::PlaceSource(s, earlier_source(chance, &receiver)));
+        draft.put(Record::Ask(r));
+    }
     let mut places = [
         Record::PlaceReceiver(r, receiver),
         place.with(&SOURCE_SLOT, s),
@@ -170,8 +179,8 @@ fn try_placings(draft: &mut Draft, chance: &mut Chance, receiver: Receiver, plac
     }
     for place in places {
         draft.put(place);
+        draft.put(Record::Ask(r));
     }
-    draft.put(Record::Ask(r));
     draft.put(Record::WithdrawSource(s));
     draft.put(Record::Ask(r));
     draft.put(Record::WithdrawReceiver(r));
@@ -287,7 +296,9 @@ fn cut_late(chance: &mut Chance) -> Vec<u8> {
         }
         if chance.one_in(3) {
             let slot = chance.between(0, 39);
-            draft.put(Record::WithdrawSource(slot));
+            if chance.one_in(2) {
+                draft.put(Record::WithdrawSource(slot));
+            }
             draft.put(Record::PlaceSource(slot, town.between(chance)));
         }
     }
@@ -329,7 +340,8 @@ fn put_shuffled(draft: &mut Draft, chance: &mut Chance, records: Vec<Record>, as
     }
 }
 
-/// A receiver, a source and walls aimed between them, which come and go in any order.
+/// A receiver, a source and walls aimed between them, which come, are exchanged for others and those for
+/// them again, and go, each in any order.
 fn screened(chance: &mut Chance) -> Vec<u8> {
     let mut draft = Draft::default();
     for _ in 0..20 {
@@ -339,14 +351,22 @@ fn screened(chance: &mut Chance) -> Vec<u8> {
             Record::PlaceReceiver(r, receiver),
             placing(chance, s, source),
         ];
+        let mut anew = vec![
+            Record::PlaceReceiver(r, earlier_receiver(chance, &receiver)),
+            Record::PlaceSource(s, earlier_source(chance, &receiver)),
+        ];
         let mut go = vec![Record::WithdrawReceiver(r), Record::WithdrawSource(s)];
         for _ in 0..chance.pick(&[1, 1, 2, 2, 3]) {
             let slot = chance.edge_in(&WALL_SLOT);
             let wall = wall_before(chance, &source.course, &receiver);
             come.push(Record::PlaceWall(slot, wall));
+            let other = wall_for(chance, &wall, &source, &receiver);
+            anew.push(Record::PlaceWall(slot, other));
             go.push(Record::WithdrawWall(slot));
         }
-        put_shuffled(&mut draft, chance, come, r);
+        for records in [come.clone(), anew, come] {
+            put_shuffled(&mut draft, chance, records, r);
+        }
         put_shuffled(&mut draft, chance, go, r);
     }
     draft.bytes
@@ -381,7 +401,7 @@ fn wall_in(chance: &mut Chance, town: &Town, draft: &Draft) -> Record {
 }
 
 /// Roads that are too loud without a wall which takes enough, or just not: without the wall they
-/// cannot come, and while they stand it cannot go.
+/// cannot come, and while they stand it cannot go, but others can come in its place.
 fn loud_walled(chance: &mut Chance) -> Vec<u8> {
     let mut draft = Draft::default();
     for _ in 0..30 {
@@ -392,6 +412,11 @@ fn loud_walled(chance: &mut Chance) -> Vec<u8> {
         draft.put(Record::PlaceReceiver(r, receiver));
         draft.put(Record::PlaceSource(s, source));
         draft.put(Record::Ask(r));
+        for _ in 0..2 {
+            let other = wall_for(chance, &wall, &source, &receiver);
+            draft.put(Record::PlaceWall(w, other));
+            draft.put(Record::Ask(r));
+        }
         let go = vec![
             Record::WithdrawWall(w),
             Record::WithdrawSource(s),
@@ -399,6 +424,34 @@ fn loud_walled(chance: &mut Chance) -> Vec<u8> {
         ];
         put_shuffled(&mut draft, chance, go, r);
         draft.put(Record::WithdrawWall(w));
+    }
+    draft.bytes
+}
+
+/// A town with a few slots in use, in which entries are exchanged: for others, for themselves and for
+/// such as cannot come. All receivers are asked after each, and while all sources go.
+fn exchanged(chance: &mut Chance) -> Vec<u8> {
+    let width = chance.pick(&[10_000, 40_000, WIDE, WIDE]);
+    let town = Town::of_width(chance, width);
+    let mut draft = Draft::default();
+    let sources = chance.between(1, 12);
+    for slot in 0..sources {
+        draft.put(town.placing(chance, slot));
+    }
+    for slot in 0..chance.between(1, 5) {
+        draft.put(Record::PlaceReceiver(slot, town.receiver(chance)));
+    }
+    for slot in 0..chance.between(0, 3) {
+        draft.put(Record::PlaceWall(slot, town.wall(chance)));
+    }
+    for _ in 0..chance.between(20, 120) {
+        let record = exchange_in(chance, &town, &draft.book);
+        draft.put(record);
+        draft.ask_all(chance);
+    }
+    for slot in 0..sources {
+        draft.put(Record::WithdrawSource(slot));
+        draft.ask_all(chance);
     }
     draft.bytes
 }
@@ -545,20 +598,20 @@ fn fields(chance: &mut Chance) -> Vec<u8> {
     ] {
         for field in &place.fields()[1..] {
             for value in trial_values(chance, field, field.bits) {
-                try_source(&mut draft, place.with(field, value));
+                try_source(&mut draft, chance, place.with(field, value));
             }
         }
     }
     let other = Record::PlaceReceiver(1, receiver);
     for field in &other.fields()[1..] {
         for value in trial_values(chance, field, field.bits) {
-            try_receiver(&mut draft, other.with(field, value));
+            try_receiver(&mut draft, chance, other.with(field, value));
         }
     }
     let wall = Record::PlaceWall(2, wall_before(chance, &source.course, &receiver));
     for field in &wall.fields()[1..] {
         for value in trial_values(chance, field, field.bits) {
-            try_wall(&mut draft, wall.with(field, value));
+            try_wall(&mut draft, chance, wall.with(field, value));
         }
     }
     try_slots(&mut draft, chance);
@@ -575,25 +628,32 @@ fn try_slots(draft: &mut Draft, chance: &mut Chance) {
     }
 }
 
-/// Places a source that may not be allowed, asks the first receiver and takes it away.
-fn try_source(draft: &mut Draft, place: Record) {
-    draft.put(place);
-    draft.put(Record::Ask(0));
-    draft.put(Record::WithdrawSource(place.slot()));
+/// Places a source that may not be allowed, asks the first receiver and takes it away, or leaves it to
+/// the next one.
+fn try_source(draft: &mut Draft, chance: &mut Chance, place: Record) {
+    let leave = Record::WithdrawSource(place.slot());
+    put_and_ask(draft, chance, [place, Record::Ask(0), leave]);
 }
 
-/// Places a receiver that may not be allowed, asks it and takes it away.
-fn try_receiver(draft: &mut Draft, place: Record) {
-    draft.put(place);
-    draft.put(Record::Ask(place.slot()));
-    draft.put(Record::WithdrawReceiver(place.slot()));
+/// The same for a receiver, which is asked itself.
+fn try_receiver(draft: &mut Draft, chance: &mut Chance, place: Record) {
+    let leave = Record::WithdrawReceiver(place.slot());
+    put_and_ask(draft, chance, [place, Record::Ask(place.slot()), leave]);
 }
 
-/// Places a wall that may not be allowed, asks the first receiver and takes it away.
-fn try_wall(draft: &mut Draft, place: Record) {
+/// The same for a wall.
+fn try_wall(draft: &mut Draft, chance: &mut Chance, place: Record) {
+    let leave = Record::WithdrawWall(place.slot());
+    put_and_ask(draft, chance, [place, Record::Ask(0), leave]);
+}
+
+/// Puts what places something and a question, and every other time what takes it away.
+fn put_and_ask(draft: &mut Draft, chance: &mut Chance, [place, ask, leave]: [Record; 3]) {
     draft.put(place);
-    draft.put(Record::Ask(0));
-    draft.put(Record::WithdrawWall(place.slot()));
+    draft.put(ask);
+    if chance.one_in(2) {
+        draft.put(leave);
+    }
 }
 
 /// One road after the other before one receiver, each with every field anew.
@@ -605,7 +665,8 @@ fn terms(chance: &mut Chance) -> Vec<u8> {
         draft.put(Record::PlaceReceiver(0, receiver));
         for _ in 0..20 {
             let source = way.place(any_road(chance), &receiver);
-            try_source(&mut draft, placing(chance, 0, source));
+            let place = placing(chance, 0, source);
+            try_source(&mut draft, chance, place);
         }
         draft.put(Record::WithdrawReceiver(0));
         farthest += farthest / 4;
@@ -629,7 +690,7 @@ fn sweep(chance: &mut Chance) -> Vec<u8> {
             } else {
                 turn
             };
-            try_source(&mut draft, base.with(&field, value));
+            try_source(&mut draft, chance, base.with(&field, value));
         }
     }
     draft.bytes
@@ -644,8 +705,8 @@ fn daily(chance: &mut Chance) -> Vec<u8> {
         for dtv in trial_values(chance, &DTV, DTV.bits) {
             let road = way.place(road(chance), &receiver);
             let daily = Daily::new(road, class, dtv);
-            try_source(&mut draft, Record::PlaceDaily(0, daily));
-            try_source(&mut draft, Record::PlaceSource(0, daily.source()));
+            try_source(&mut draft, chance, Record::PlaceDaily(0, daily));
+            try_source(&mut draft, chance, Record::PlaceSource(0, daily.source()));
         }
     }
     draft.bytes

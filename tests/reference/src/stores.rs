@@ -1,10 +1,11 @@
 // Stored states by chance with a record each: sound ones and damaged ones.
 // A seed stands for one probe; its remainder by the number of kinds says which kind it is.
 
-use crate::book::{encode, Account, Book, TOP};
+use crate::book::{decode, encode, Account, Book, TOP};
 use crate::chance::Chance;
 use crate::course::Course;
 use crate::cuts::stretched_roads;
+use crate::exchanges::{exchanged, exchanged_source, exchanged_wall};
 use crate::fields::{
     Field, CAR_SPEED, FARTHEST, HEIGHT, LENGTH, PARALLEL_HEIGHT, PARALLEL_SPACING, PARALLEL_WALLS,
     RECEIVERS, RECEIVER_FIELDS, RECEIVER_SLOT, REFLECTION, SOURCES, SOURCE_SLOT, SURFACE,
@@ -32,7 +33,7 @@ use crate::wall::Wall;
 type Maker = fn(&mut Chance) -> Frame;
 
 /// The kinds of probes, with the names they are counted by.
-const KINDS: [(&str, Maker); 48] = [
+const KINDS: [(&str, Maker); 56] = [
     ("sound", sound),
     ("unread", unread),
     ("disallowed", disallowed),
@@ -81,6 +82,14 @@ const KINDS: [(&str, Maker); 48] = [
     ("asked", asked),
     ("asked", asked),
     ("barely-asked", barely_asked),
+    ("exchanged", exchanged),
+    ("exchanged", exchanged),
+    ("exchanged-source", exchanged_source),
+    ("exchanged-source", exchanged_source),
+    ("exchanged-source", exchanged_source),
+    ("exchanged-source", exchanged_source),
+    ("exchanged-wall", exchanged_wall),
+    ("exchanged-wall", exchanged_wall),
 ];
 
 fn kind(seed: u64) -> (&'static str, Maker) {
@@ -136,21 +145,23 @@ pub(crate) fn slot_in<T>(chance: &mut Chance, slots: &[Option<T>], used: bool) -
     }
 }
 
-/// A record of any kind that mostly finds its slot as it needs it.
+/// A record of any kind: what is to go or to be asked is mostly there, and what is to come comes into
+/// a free slot or, every third time, into one in use.
 pub(crate) fn fitting_record(chance: &mut Chance, town: &Town, book: &Book) -> Record {
-    let fits = !chance.one_in(6);
+    let there = !chance.one_in(6);
+    let again = chance.one_in(3);
     let source = |chance: &mut Chance, used| slot_in(chance, &book.sources, used) as i64;
     let receiver = |chance: &mut Chance, used| slot_in(chance, &book.accounts, used) as i64;
     match chance.between(0, 9) {
         8 | 9 => wall_call(chance, book, town),
-        0 => Record::PlaceReceiver(receiver(chance, !fits), town.receiver(chance)),
-        1 => Record::WithdrawReceiver(receiver(chance, fits)),
+        0 => Record::PlaceReceiver(receiver(chance, again), town.receiver(chance)),
+        1 => Record::WithdrawReceiver(receiver(chance, there)),
         2 | 3 => {
-            let slot = source(chance, !fits);
+            let slot = source(chance, again);
             town.placing(chance, slot)
         }
-        4 | 5 => Record::WithdrawSource(source(chance, fits)),
-        _ => Record::Ask(receiver(chance, fits)),
+        4 | 5 => Record::WithdrawSource(source(chance, there)),
+        _ => Record::Ask(receiver(chance, there)),
     }
 }
 
@@ -215,13 +226,19 @@ fn disallowed(chance: &mut Chance) -> Frame {
         Record::PlaceWall(slot, wall) => {
             Record::PlaceWall(slot, disallowed_wall(chance, wall)).bytes()
         }
-        _ => broken_source(chance),
+        _ => {
+            let slot = match decode(&frame.image) {
+                Some(book) if chance.one_in(2) => slot_in(chance, &book.sources, true) as i64,
+                _ => chance.within(&SOURCE_SLOT),
+            };
+            broken_source(chance, slot)
+        }
     };
     frame
 }
 
 /// The same wall with a height that is not allowed, both ends at one place, or both.
-fn disallowed_wall(chance: &mut Chance, wall: Wall) -> Wall {
+pub(crate) fn disallowed_wall(chance: &mut Chance, wall: Wall) -> Wall {
     let height = chance.pick(&WALL_HEIGHT.outer_edges(WALL_HEIGHT.bits));
     let second = wall.first;
     chance.pick(&[
@@ -235,20 +252,23 @@ fn disallowed_wall(chance: &mut Chance, wall: Wall) -> Wall {
     ])
 }
 
-/// The bytes of a source with one field, or its surface, or two of these, not allowed.
-fn broken_source(chance: &mut Chance) -> Vec<u8> {
-    let (slot, town) = (chance.within(&SOURCE_SLOT), Town::anywhere(chance));
-    let place = town.placing(chance, slot);
+/// The bytes of a source anywhere that is not allowed.
+fn broken_source(chance: &mut Chance, slot: i64) -> Vec<u8> {
+    let place = Town::anywhere(chance).placing(chance, slot);
+    broken(chance, place).bytes()
+}
+
+/// The same record with one field of its source, or the surface, or two of these, not allowed.
+pub(crate) fn broken(chance: &mut Chance, place: Record) -> Record {
     let slow = place
         .with(&SURFACE, chance.between(FAST_SURFACE, SURFACE.most()))
         .with(&CAR_SPEED, chance.between(CAR_SPEED.least(), FAST_ABOVE));
-    let broken = match chance.between(0, 15) {
+    match chance.between(0, 15) {
         0 => past_an_edge(chance, place.with(&REFLECTION, REFLECTION.most() + 1)),
         1 => past_an_edge(chance, slow),
         2..=5 => slow,
         _ => past_an_edge(chance, place),
-    };
-    broken.bytes()
+    }
 }
 
 /// The same source between two ends with a length just past what is allowed.

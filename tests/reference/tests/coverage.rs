@@ -1,5 +1,6 @@
 // What the jobs and probes by chance meet: every refusal that there is, and more than once.
-// Number 7 is not among them: no allowed speeds make a truck quieter than a car.
+// Number 7 is not among them: no allowed speeds make a truck quieter than a car. Neither is 8, which is
+// given no more: what is placed into a used slot takes the place of what stood there.
 
 use reference::book::{decode, Answer, Book};
 use reference::fields::{Field, CAR_SPEED, LENGTH, SURFACE};
@@ -14,16 +15,19 @@ use reference::writing::{fixed_writings, writing, Writing};
 
 const SEEDS: std::ops::RangeInclusive<u64> = 1..=1000;
 
+/// The numbers that are never given.
+const UNUSED: [usize; 2] = [7, 8];
+
 #[test]
 fn jobs_meet_every_refusal() {
     let mut tally = Tally::default();
     for job in SEEDS.map(job).chain(fixed_jobs()) {
         tally.add(&list(&job, &mut Vec::new()));
     }
-    for number in (2..=14).filter(|&number| number != 7) {
+    for number in (2..=14).filter(|number| !UNUSED.contains(number)) {
         assert!(tally.refusals[number] >= 20, "refusal {number}");
     }
-    assert_eq!(tally.refusals[7], 0);
+    assert_eq!(UNUSED.map(|number| tally.refusals[number]), [0; 2]);
     assert!(tally.asks >= 10_000);
 }
 
@@ -83,14 +87,15 @@ fn jobs_meet_every_refusal_of_a_daily_figure() {
             }
         }
     }
-    for number in [2, 4, 5, 6, 8, 10, 11, 12, 13] {
+    for number in [2, 4, 5, 6, 10, 11, 12, 13, 14] {
         assert!(counts[number] >= 20, "refusal {number}");
     }
+    assert_eq!(UNUSED.map(|number| counts[number]), [0; 2]);
 }
 
 #[test]
 fn probes_with_daily_figures_are_those_with_the_traffic_told() {
-    let mut done = 0;
+    let (mut placed, mut exchanged) = (0, 0);
     for mut frame in SEEDS.map(frame).chain(fixed_frames()) {
         let before = frame.image.clone();
         if let Ok((Record::PlaceDaily(slot, _), _)) = read(&frame.record) {
@@ -101,14 +106,17 @@ fn probes_with_daily_figures_are_those_with_the_traffic_told() {
             let answer = frame.call().answer;
             assert_eq!((answer, &frame.image), (other.call().answer, &other.image));
             if answer == Answer::Done {
-                done += 1;
-                frame.record = Record::WithdrawSource(slot).bytes();
+                let old = decode(&before).unwrap().sources[slot as usize];
+                placed += u64::from(old.is_none());
+                exchanged += u64::from(old.is_some());
+                let back = old.map(|source| Record::PlaceSource(slot, source));
+                frame.record = back.unwrap_or(Record::WithdrawSource(slot)).bytes();
                 assert_eq!(frame.call().answer, Answer::Done);
                 assert_eq!(frame.image, before);
             }
         }
     }
-    assert!(done >= 50);
+    assert!(placed >= 50 && exchanged >= 10, "{placed} {exchanged}");
 }
 
 #[test]
@@ -143,9 +151,10 @@ fn probes_meet_every_refusal() {
             }
         }
     }
-    for number in (1..=14).filter(|&number| number != 7) {
+    for number in (1..=14).filter(|number| !UNUSED.contains(number)) {
         assert!(counts[number] >= 3, "refusal {number}");
     }
+    assert_eq!(UNUSED.map(|number| counts[number]), [0; 2]);
     for (kind, met) in late.into_iter().enumerate() {
         let possible = [3, 4, 6, 7].contains(&kind);
         assert!(possible == (met >= 5), "late 1 of records of kind {kind}");

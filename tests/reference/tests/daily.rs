@@ -230,23 +230,46 @@ fn the_book_refuses_it_as_any_source() {
 }
 
 #[test]
-fn slots_and_sums_are_looked_at_as_for_any_source() {
+fn it_is_exchanged_as_any_source() {
+    let mut book = with_receiver();
+    assert_eq!(book.apply(&place_street()), Answer::Done);
+    let street_alone = book.clone();
+    let again = Record::PlaceSource(7, example_source());
+    assert_eq!(book.apply(&again), Answer::Done);
+    let mut example_alone = with_receiver();
+    example_alone.place_source(7, &example_source()).unwrap();
+    assert_eq!(book, example_alone);
+    assert_eq!(book.apply(&place_street()), Answer::Done);
+    assert_eq!(book, street_alone);
+    // itself by its daily figure, and itself with its traffic told
+    assert_eq!(book.apply(&place_street()), Answer::Done);
+    let told = place_street().source().unwrap();
+    assert_eq!(book.place_source(7, &told), Ok(()));
+    assert_eq!(book, street_alone);
+    book.withdraw_source(7).unwrap();
+    assert_eq!(book, with_receiver());
+}
+
+#[test]
+fn sums_are_looked_at_as_for_any_source() {
     let mut book = with_receiver();
     book.place_source(7, &example_source()).unwrap();
-    let before = book.clone();
-    let taken = Answer::Refused(refused(8, 0));
-    assert_eq!(book.apply(&place_street()), taken);
-    book.withdraw_source(7).unwrap();
-    assert_eq!(book.apply(&place_street()), Answer::Done);
-    let again = Record::PlaceSource(7, example_source());
-    assert_eq!(book.apply(&again), taken);
-    book.withdraw_source(7).unwrap();
-    assert_eq!(book.apply(&again), Answer::Done);
-    assert_eq!(book, before);
     book.accounts[5].as_mut().unwrap().sums[2] = TOP;
     let late = Answer::Refused(refused(1, 0));
     let free = place_street().with(&SOURCE_SLOT, 8);
     assert_eq!(book.apply(&free), late);
+    // in place of a louder one there is room for it, and then none for the louder one with a unit more
+    let [loud, street] = [example_source(), place_street().source().unwrap()].map(|source| {
+        let mut book = with_receiver();
+        book.place_source(0, &source).unwrap();
+        book.accounts[5].unwrap().sums[2]
+    });
+    assert!(street < loud);
+    assert_eq!(book.apply(&place_street()), Answer::Done);
+    assert_eq!(book.accounts[5].unwrap().sums[2], TOP - loud + street);
+    book.accounts[5].as_mut().unwrap().sums[2] += 1;
+    let again = Record::PlaceSource(7, example_source());
+    assert_eq!(book.apply(&again), late);
 }
 
 #[test]

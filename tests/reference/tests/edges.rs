@@ -347,18 +347,16 @@ impl Pairs {
         }
     }
 
-    /// Meets the pairs of a new entry, if it is allowed and its slot is free.
+    /// Meets the pairs of a new entry, if it is allowed.
     fn meet_record(&mut self, book: &Book, record: &Record) {
         match record {
             _ if record.judge().is_err() => {}
-            Record::PlaceSource(slot, _) | Record::PlaceDaily(slot, _)
-                if book.sources[*slot as usize].is_none() =>
-            {
+            Record::PlaceSource(..) | Record::PlaceDaily(..) => {
                 let source = record.source().unwrap();
                 let standing = book.accounts.iter().flatten();
                 standing.for_each(|account| self.meet(&source, &account.receiver));
             }
-            Record::PlaceReceiver(slot, receiver) if book.accounts[*slot as usize].is_none() => {
+            Record::PlaceReceiver(_, receiver) => {
                 let standing = book.sources.iter().flatten();
                 standing.for_each(|source| self.meet(source, receiver));
             }

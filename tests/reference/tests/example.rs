@@ -42,13 +42,13 @@ fn the_bypass_has_records_of_every_kind() {
     assert_eq!(kinds, BTreeSet::from_iter(listed_kinds()));
 }
 
-/// Every answer to the receivers of the village, for L_DEN in tenths.
-fn village() -> [Vec<i64>; 3] {
+/// Every answer to a receiver of the bypass, for L_DEN in tenths.
+fn answers_to(receiver: i64) -> Vec<i64> {
     let mut book = Book::cleared();
-    let mut answers: [Vec<i64>; 3] = Default::default();
+    let mut answers = Vec::new();
     for record in records("bypass.job") {
-        if let (Record::Ask(slot @ 3..=5), Answer::Levels(levels)) = (record, book.apply(&record)) {
-            answers[slot as usize - 3].extend(levels.den);
+        if let Answer::Levels(levels) = book.apply(&record) {
+            answers.extend(levels.den.filter(|_| record.slot() == receiver));
         }
     }
     answers
@@ -56,12 +56,53 @@ fn village() -> [Vec<i64>; 3] {
 
 #[test]
 fn the_village_hears_less_behind_the_wall_and_least_behind_the_higher_one() {
-    for answers in village() {
-        let [.., open, low, high] = answers[..] else {
-            panic!("each is asked before and after both: {answers:?}");
+    for answers in [3, 4, 5].map(answers_to) {
+        let [.., open, low, high, again] = answers[..] else {
+            panic!("each is asked before, after and without both: {answers:?}");
         };
-        assert!(high < low && low < open, "{answers:?}");
+        assert!(high < low && low < open && again == open, "{answers:?}");
     }
+}
+
+#[test]
+fn the_village_hears_less_with_each_road_that_is_repaved() {
+    let answers = answers_to(4);
+    let [before, one, two, ..] = answers[..] else {
+        panic!("it is asked before and after each: {answers:?}");
+    };
+    assert!(two < one && one < before, "{answers:?}");
+}
+
+/// Whether a slot of the kind that a record places is in use.
+fn is_used(book: &Book, record: &Record) -> bool {
+    let slot = record.slot() as usize;
+    match record {
+        Record::PlaceSource(..) | Record::PlaceDaily(..) => book.sources[slot].is_some(),
+        Record::PlaceReceiver(..) => book.accounts[slot].is_some(),
+        Record::PlaceWall(..) => book.walls[slot].is_some(),
+        _ => false,
+    }
+}
+
+#[test]
+fn the_bypass_is_edited_in_its_slots() {
+    let mut book = Book::cleared();
+    let (mut edited, mut refused) = (Vec::new(), Vec::new());
+    for record in records("bypass.job") {
+        let used = is_used(&book, &record);
+        let before = book.clone();
+        match book.apply(&record) {
+            Answer::Done if used => edited.push(record.kind()),
+            Answer::Refused(refusal) if used => {
+                refused.push((record.kind(), refusal.number));
+                assert_eq!(book, before);
+            }
+            _ => {}
+        }
+    }
+    assert_eq!((edited, refused), (vec![7, 7, 1, 8], vec![(1, 10)]));
+    // what was refused there left the receiver where it was
+    assert_eq!(answers_to(11).len(), 2);
 }
 
 #[test]

@@ -258,7 +258,7 @@ impl Together {
 #[test]
 fn jobs_meet_hundreds_of_far_roads_that_are_heard_together() {
     let mut together = Together::default();
-    (1..=1000).for_each(|seed| together.meet_job(&job(seed)));
+    (1..=1200).for_each(|seed| together.meet_job(&job(seed)));
     let Together {
         heard,
         quiet_again,

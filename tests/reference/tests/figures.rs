@@ -351,7 +351,11 @@ fn a_source_brings_and_takes_its_share_wherever_it_comes_in() {
     late.place_source(3, &example_source()).unwrap();
     late.place_receiver(5, &example_receiver()).unwrap();
     assert_eq!(early, late);
-    assert_eq!(early.place_source(3, &example_source()), refused(8, 0));
+    assert_eq!(early.place_source(3, &at(110_000, 1000)), Ok(()));
+    let two = [4293, 4348, 3403].map(|level| 2 * energy(level));
+    assert_eq!(early.accounts[5].unwrap().sums, two);
+    assert_eq!(early.place_source(3, &example_source()), Ok(()));
+    assert_eq!(early, late);
     early.withdraw_source(LAST).unwrap();
     early.withdraw_source(3).unwrap();
     assert_eq!(early, with_receiver());

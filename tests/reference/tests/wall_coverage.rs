@@ -87,9 +87,9 @@ fn jobs_meet_every_refusal_of_walls() {
             answer
         });
     }
-    // in a job no pair stands that is barred, so that a wall more can bring nothing but a 14, and one
-    // less nothing but a 13
-    refusals.check(&[0, 2, 4, 5, 8, 14], &[0, 2, 4, 9, 13], 10);
+    // in a job no pair stands that is barred, so that a wall more can bring nothing but a 14, one less
+    // nothing but a 13, and one in place of another both
+    refusals.check(&[0, 2, 4, 5, 13, 14], &[0, 2, 4, 9, 13], 10);
 }
 
 #[test]
@@ -101,7 +101,7 @@ fn probes_meet_every_refusal_of_walls() {
     }
     let pair = [10, 11, 12, 13, 14];
     refusals.check(
-        &[&[0, 1, 2, 4, 5, 8][..], &pair].concat(),
+        &[&[0, 1, 2, 4, 5][..], &pair].concat(),
         &[&[0, 1, 2, 4, 9][..], &pair].concat(),
         3,
     );
@@ -281,7 +281,7 @@ impl Met {
         }
     }
 
-    /// Meets the pairs of a record that is allowed and finds its slot as it needs it.
+    /// Meets the pairs of a record that is allowed and places something.
     fn meet_record(&mut self, book: &Book, record: &Record) {
         if record.judge().is_err() {
             return;
@@ -297,7 +297,9 @@ impl Met {
         };
         let sources: Vec<Source> = match record {
             Record::PlaceSource(_, source) => vec![*source],
-            Record::PlaceWall(_, wall) if book.walls[slot].is_none() => {
+            Record::PlaceWall(_, wall) => {
+                let others = (0..).zip(&book.walls).filter(|&(at, _)| at != slot);
+                walls = others.filter_map(|(_, other)| *other).collect();
                 walls.push(*wall);
                 book.sources.iter().flatten().copied().collect()
             }

@@ -384,10 +384,20 @@ fn a_call_to_write_has_a_wall_where_a_source_has_its_ends() {
 fn slots_that_are_used_or_not() {
     let mut book = worked();
     assert_eq!(book.withdraw_wall(9), Err(refused(9, 0)));
-    book.place_wall(9, &halfway(400)).unwrap();
-    assert_eq!(book.place_wall(9, &halfway(300)), Err(refused(8, 0)));
-    // a field that is not allowed is said first
+    book.place_wall(9, &halfway(300)).unwrap();
+    let low = book.clone();
+    // a higher one in its place, which in another slot would be one too many
+    assert_eq!(book.place_wall(8, &halfway(400)), Err(refused(14, 5)));
+    assert_eq!(book.place_wall(9, &halfway(400)), Ok(()));
+    let mut high = worked();
+    high.place_wall(9, &halfway(400)).unwrap();
+    assert_eq!(book, high);
+    assert!((0..3).all(|period| sums(&high)[period] < sums(&low)[period]));
+    // one that is not allowed leaves it
     assert_eq!(book.place_wall(9, &halfway(0)), Err(refused(5, 6)));
+    assert_eq!(book, high);
+    assert_eq!(book.place_wall(9, &halfway(300)), Ok(()));
+    assert_eq!(book, low);
     book.withdraw_wall(9).unwrap();
     assert_eq!(book, worked());
 }

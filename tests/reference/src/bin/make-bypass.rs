@@ -1,5 +1,6 @@
 // Prints the example job: a bypass that bends around a village, in ten roads which the book cuts, a
-// side street and a noise wall. A receiver on the road (10) and a second wall (14) are refused.
+// side street and a noise wall. Roads, a receiver and the wall are edited in their slots. A receiver that
+// would come to stand on the road (10) and a second wall (14) are refused.
 
 use reference::course::Course;
 use reference::daily::Daily;
@@ -130,12 +131,12 @@ fn job() -> Vec<Record> {
     job.push(Record::PlaceSource(0, mirrored(10)));
     job.extend([Record::Ask(0), Record::Ask(4)]);
     for number in 3..5 {
-        job.push(Record::WithdrawSource(FIRST_SLOT + number));
         job.push(Record::PlaceSource(FIRST_SLOT + number, repaved(number)));
+        job.push(Record::Ask(4));
     }
     job.push(Record::WithdrawSource(0));
-    job.push(Record::PlaceReceiver(12, beside(30, 0, 400)));
-    job.push(Record::WithdrawReceiver(11));
+    job.push(Record::PlaceReceiver(11, beside(30, 0, 400)));
+    job.push(Record::Ask(11));
     job.push(Record::PlaceReceiver(11, beside(58, 4_500, 400)));
     for number in 0..5 {
         job.push(Record::PlaceDaily(1 + number, street(number)));
@@ -144,8 +145,10 @@ fn job() -> Vec<Record> {
     job.push(Record::PlaceWall(0, wall(300)));
     job.extend(VILLAGE.map(Record::Ask));
     job.push(Record::PlaceWall(1, second_wall()));
-    job.push(Record::WithdrawWall(0));
     job.push(Record::PlaceWall(0, wall(500)));
+    job.extend(VILLAGE.map(Record::Ask));
+    job.push(Record::WithdrawWall(0));
+    job.push(Record::WithdrawReceiver(7));
     job.extend(VILLAGE.map(Record::Ask));
     job
 }

@@ -1,5 +1,6 @@
-// Writes the five jobs of the benchmark into a folder: a town, a town that is edited, one that is
-// asked, one of long roads and one with walls that are edited. Every record in them is taken.
+// Writes the six jobs of the benchmark into a folder: a town, a town that is edited in two calls and
+// in one, one that is asked, one of long roads and one with walls that are edited. Every record in them
+// is taken.
 
 use reference::chance::Chance;
 use reference::course::Course;
@@ -42,7 +43,9 @@ fn main() -> ExitCode {
 
 fn write_all(folder: &Path) -> std::io::Result<()> {
     std::fs::write(folder.join("town.job"), town(&mut Chance::new(1)).bytes)?;
-    std::fs::write(folder.join("edit.job"), edited(&mut Chance::new(2)))?;
+    let [in_two_calls, in_one] = edited(&mut Chance::new(2));
+    std::fs::write(folder.join("edit.job"), in_two_calls)?;
+    std::fs::write(folder.join("set.job"), in_one)?;
     std::fs::write(folder.join("ask.job"), asked(&mut Chance::new(3)))?;
     std::fs::write(folder.join("cut.job"), cut(&mut Chance::new(4)))?;
     std::fs::write(folder.join("walls.job"), walled(&mut Chance::new(5)))
@@ -130,20 +133,24 @@ fn ask_any(draft: &mut Draft, chance: &mut Chance) {
     assert!(draft.put_if_taken(Record::Ask(slot)));
 }
 
-/// The town, then over and over a road withdrawn, placed again otherwise, and a question.
-fn edited(chance: &mut Chance) -> Vec<u8> {
+/// The town, then over and over a road withdrawn, placed again otherwise, and a question; and the same
+/// edits with every road placed where the old one stands, without a withdrawal.
+fn edited(chance: &mut Chance) -> [Vec<u8>; 2] {
     let mut draft = town(chance);
+    let mut in_one = draft.bytes.clone();
     for _ in 0..EDITS {
         let slot = chance.index(SOURCES);
         let old = draft.book.sources[slot].expect("every slot is in use");
         assert!(draft.put_if_taken(Record::WithdrawSource(slot as i64)));
+        let withdrawn = draft.bytes.len();
         let middle = old.course.middle();
         place_some(&mut draft, slot as i64, || {
             road(chance, middle.x, middle.y).uncut(old.course.length())
         });
         ask_any(&mut draft, chance);
+        in_one.extend(&draft.bytes[withdrawn..]);
     }
-    draft.bytes
+    [draft.bytes, in_one]
 }
 
 /// The town, then nothing but questions.
