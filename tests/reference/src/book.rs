@@ -249,6 +249,36 @@ impl Book {
         Ok(indices(&account.sums))
     }
 
+    /// A book that is given the walls of this one first, then its receivers and its sources.
+    pub fn given_anew(&self) -> Book {
+        let mut fresh = Book {
+            walls: self.walls.clone(),
+            ..Book::cleared()
+        };
+        for (slot, account) in (0..).zip(&self.accounts) {
+            if let Some(account) = account {
+                fresh.place_receiver(slot, &account.receiver).unwrap();
+            }
+        }
+        for (slot, source) in (0..).zip(&self.sources) {
+            if let Some(source) = source {
+                fresh.place_source(slot, source).unwrap();
+            }
+        }
+        fresh
+    }
+
+    /// Whether a record places something into a slot in use.
+    pub fn exchanges(&self, record: &Record) -> bool {
+        let slot = record.slot() as usize;
+        match record {
+            Record::PlaceSource(..) | Record::PlaceDaily(..) => self.sources[slot].is_some(),
+            Record::PlaceReceiver(..) => self.accounts[slot].is_some(),
+            Record::PlaceWall(..) => self.walls[slot].is_some(),
+            _ => false,
+        }
+    }
+
     /// Does the call a record stands for.
     pub fn apply(&mut self, record: &Record) -> Answer {
         let outcome = match record {

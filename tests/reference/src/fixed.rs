@@ -33,6 +33,24 @@ pub fn example_receiver() -> Receiver {
     }
 }
 
+/// A source as loud as there is, where it is.
+pub fn as_loud_as_can_be(source: Source) -> Source {
+    let all = Traffic {
+        vehicles: 10_000_000,
+        trucks: 1000,
+    };
+    Source {
+        car_speed: 130,
+        surface: 4,
+        gradient: 120,
+        parallel_walls: 1,
+        parallel_height: 4000,
+        parallel_spacing: 1200,
+        traffic: [all; 3],
+        ..source
+    }
+}
+
 /// The source of the worked case at 25 m.
 pub fn example_source() -> Source {
     let mut source = Source {

@@ -73,23 +73,12 @@ fn the_village_hears_less_with_each_road_that_is_repaved() {
     assert!(two < one && one < before, "{answers:?}");
 }
 
-/// Whether a slot of the kind that a record places is in use.
-fn is_used(book: &Book, record: &Record) -> bool {
-    let slot = record.slot() as usize;
-    match record {
-        Record::PlaceSource(..) | Record::PlaceDaily(..) => book.sources[slot].is_some(),
-        Record::PlaceReceiver(..) => book.accounts[slot].is_some(),
-        Record::PlaceWall(..) => book.walls[slot].is_some(),
-        _ => false,
-    }
-}
-
 #[test]
 fn the_bypass_is_edited_in_its_slots() {
     let mut book = Book::cleared();
     let (mut edited, mut refused) = (Vec::new(), Vec::new());
     for record in records("bypass.job") {
-        let used = is_used(&book, &record);
+        let used = book.exchanges(&record);
         let before = book.clone();
         match book.apply(&record) {
             Answer::Done if used => edited.push(record.kind()),

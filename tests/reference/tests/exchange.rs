@@ -5,12 +5,12 @@ use reference::book::{apply_stored, decode, encode, Account, Answer, Book, TOP};
 use reference::course::Course;
 use reference::daily::Daily;
 use reference::fields::{CAR_SPEED, HEIGHT, SURFACE, WALL_HEIGHT};
-use reference::fixed::{example_receiver, example_source, HALFWAY_WALL};
+use reference::fixed::{as_loud_as_can_be, example_receiver, example_source, HALFWAY_WALL};
 use reference::fixed_exchanges::exchange_example;
 use reference::level::energy;
 use reference::listing::list;
 use reference::record::Record;
-use reference::road::{Receiver, Refusal, Source, Traffic};
+use reference::road::{Receiver, Refusal, Source};
 use reference::wall::Wall;
 
 /// The share levels of the source of the worked case, and of the same at 100 m.
@@ -31,20 +31,9 @@ fn between() -> Source {
 
 /// The same source as loud as there is, 6 m from the receiver.
 fn loud_source() -> Source {
-    let all = Traffic {
-        vehicles: 10_000_000,
-        trucks: 1000,
-    };
     Source {
         course: Course::uncut(100_600, 100_000, 250),
-        car_speed: 130,
-        surface: 4,
-        gradient: 120,
-        parallel_walls: 1,
-        parallel_height: 4000,
-        parallel_spacing: 1200,
-        traffic: [all; 3],
-        ..example_source()
+        ..as_loud_as_can_be(example_source())
     }
 }
 

@@ -38,17 +38,6 @@ fn walk(mut job: &[u8], mut look: impl FnMut(Option<&Record>, Answer, &Book, &Bo
     book
 }
 
-/// Whether a record places something into a slot in use.
-fn exchanges(book: &Book, record: &Record) -> bool {
-    let slot = record.slot() as usize;
-    match record {
-        Record::PlaceSource(..) | Record::PlaceDaily(..) => book.sources[slot].is_some(),
-        Record::PlaceReceiver(..) => book.accounts[slot].is_some(),
-        Record::PlaceWall(..) => book.walls[slot].is_some(),
-        _ => false,
-    }
-}
-
 fn number_of(answer: Answer) -> usize {
     match answer {
         Answer::Refused(refusal) => usize::from(refusal.number),
@@ -101,7 +90,7 @@ fn jobs_meet_every_answer_to_an_exchange() {
     let mut answers = Answers::default();
     for job in JOBS.map(job).chain(fixed_jobs()) {
         walk(&job, |record, answer, before, after| {
-            let Some(record) = record.filter(|record| exchanges(before, record)) else {
+            let Some(record) = record.filter(|record| before.exchanges(record)) else {
                 return;
             };
             answers.count(record, answer);
@@ -131,7 +120,7 @@ fn probes_meet_every_answer_to_an_exchange() {
         let Ok((record, _)) = take(&frame.record) else {
             continue;
         };
-        if exchanges(&book, &record) {
+        if book.exchanges(&record) {
             let before = frame.image.clone();
             let answer = frame.call().answer;
             answers.count(&record, answer);
@@ -206,7 +195,7 @@ fn exchanges_in_jobs_are_what_two_calls_are() {
     let mut counts = [0; 16];
     for job in JOBS.map(job).chain(fixed_jobs()) {
         walk(&job, |record, answer, before, after| {
-            if let Some(record) = record.filter(|record| exchanges(before, record)) {
+            if let Some(record) = record.filter(|record| before.exchanges(record)) {
                 if record.judge().is_ok() {
                     hold_against_two_calls(before, record, answer, after);
                     counts[usize::from(record.kind())] += u64::from(answer == Answer::Done);
@@ -223,7 +212,7 @@ fn exchange_probes() -> impl Iterator<Item = (Book, Record, Frame)> {
     let frames = PROBES.map(frame).chain(fixed_frames());
     frames.filter_map(|frame| {
         let (book, (record, _)) = (decode(&frame.image)?, read(&frame.record).ok()?);
-        exchanges(&book, &record).then_some((book, record, frame))
+        book.exchanges(&record).then_some((book, record, frame))
     })
 }
 
@@ -254,25 +243,6 @@ fn an_exchange_of_sources_is_undone_by_another_one() {
         }
     }
     assert!(undone >= 300, "{undone}");
-}
-
-/// A book that is given the walls of another first, then its receivers and its sources.
-fn made_afresh(book: &Book) -> Book {
-    let mut fresh = Book {
-        walls: book.walls.clone(),
-        ..Book::cleared()
-    };
-    for (slot, account) in (0..).zip(&book.accounts) {
-        if let Some(account) = account {
-            fresh.place_receiver(slot, &account.receiver).unwrap();
-        }
-    }
-    for (slot, source) in (0..).zip(&book.sources) {
-        if let Some(source) = source {
-            fresh.place_source(slot, source).unwrap();
-        }
-    }
-    fresh
 }
 
 /// What stands in a book after a job, as its records and their answers alone tell it.
@@ -327,11 +297,11 @@ fn the_latest_accepted_entries_stand_and_make_the_sums() {
         let book = walk(&job, |record, answer, before, _| {
             if let (Some(record), Answer::Done) = (record, answer) {
                 latest.take(record);
-                kinds[usize::from(record.kind())] |= u64::from(exchanges(before, record));
+                kinds[usize::from(record.kind())] |= u64::from(before.exchanges(record));
             }
         });
         assert!(latest.is_in(&book));
-        assert!(made_afresh(&book) == book);
+        assert!(book.given_anew() == book);
         (0..16).for_each(|kind| compared[kind] += kinds[kind]);
     }
     let compared = PLACINGS.map(|kind| compared[usize::from(kind)]);
@@ -372,7 +342,7 @@ fn questions_after_exchanges_tell_what_stands() {
                     counts.note(format!("{kind} tells what came"), on);
                 }
             }
-            if let Some(record) = record.filter(|record| exchanges(before, record)) {
+            if let Some(record) = record.filter(|record| before.exchanges(record)) {
                 last = Some((*record, answer, before.clone()));
             }
         });
@@ -598,7 +568,7 @@ fn note_all(frames: impl Iterator<Item = Frame>) -> Counts {
         let (Some(book), Ok((record, _))) = (decode(&frame.image), read(&frame.record)) else {
             continue;
         };
-        if !exchanges(&book, &record) {
+        if !book.exchanges(&record) {
             continue;
         }
         let before = frame.image.clone();
@@ -640,7 +610,7 @@ fn jobs_meet_walls_that_are_judged_without_the_old_one() {
     let mut counts = Counts::default();
     for job in JOBS.map(job) {
         walk(&job, |record, answer, before, _| {
-            let exchange = record.filter(|record| exchanges(before, record));
+            let exchange = record.filter(|record| before.exchanges(record));
             if let Some(record) = exchange.filter(|record| record.judge().is_ok()) {
                 note_wall(&mut counts, before, record, answer);
             }

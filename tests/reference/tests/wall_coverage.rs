@@ -372,25 +372,6 @@ fn probes_meet_every_manner_in_which_walls_lie_to_a_way() {
     met.check(2);
 }
 
-/// A book that is given the walls of another first, then its receivers and its sources.
-fn with_the_walls_first(book: &Book) -> Book {
-    let mut fresh = Book {
-        walls: book.walls.clone(),
-        ..Book::cleared()
-    };
-    for (slot, account) in (0..).zip(&book.accounts) {
-        if let Some(account) = account {
-            fresh.place_receiver(slot, &account.receiver).unwrap();
-        }
-    }
-    for (slot, source) in (0..).zip(&book.sources) {
-        if let Some(source) = source {
-            fresh.place_source(slot, source).unwrap();
-        }
-    }
-    fresh
-}
-
 /// Whether a wall counts between some source and some receiver of a book.
 fn is_screened(book: &Book) -> bool {
     let walls = book.standing_walls();
@@ -407,7 +388,7 @@ fn sums_under_walls_are_those_of_a_book_that_had_the_walls_first() {
     for job in SEEDS.map(job) {
         let book = walk(&job, done);
         if !book.standing_walls().is_empty() {
-            assert_eq!(with_the_walls_first(&book), book);
+            assert_eq!(book.given_anew(), book);
             compared += 1;
             screened += u64::from(is_screened(&book));
         }

@@ -4,7 +4,7 @@
 use reference::book::{apply_stored, decode, encode, Account, Answer, Book, TOP};
 use reference::course::{Course, Piece, Point};
 use reference::fields::{FIRST_X, FIRST_Y, WALL_HEIGHT, WALL_SECOND_X, WALL_SECOND_Y, WALL_SLOT};
-use reference::fixed::{example_receiver, example_source, walled_example};
+use reference::fixed::{as_loud_as_can_be, example_receiver, example_source, walled_example};
 use reference::level::energy;
 use reference::listing::list;
 use reference::record::{read, write, Record};
@@ -448,28 +448,10 @@ fn fourteen_comes_after_twelve_and_before_thirteen() {
     let far = near.moved(400_000, 100_000);
     assert_eq!(book.place_source(0, &far), Err(refused(11, 5)));
     // the loudest there is: 14 while both walls stand, then 13
-    let loud = loud_source(near.uncut(250));
+    let loud = as_loud_as_can_be(near.uncut(250));
     assert_eq!(book.place_source(0, &loud), Err(refused(14, 5)));
     book.withdraw_wall(1).unwrap();
     assert_eq!(book.place_source(0, &loud), Err(refused(13, 5)));
-}
-
-/// The same source as loud as there is.
-fn loud_source(source: Source) -> Source {
-    let all = Traffic {
-        vehicles: 10_000_000,
-        trucks: 1000,
-    };
-    Source {
-        car_speed: 130,
-        surface: 4,
-        gradient: 120,
-        parallel_walls: 1,
-        parallel_height: 4000,
-        parallel_spacing: 1200,
-        traffic: [all; 3],
-        ..source
-    }
 }
 
 #[test]
@@ -503,7 +485,7 @@ fn every_piece_is_judged_by_its_distance_before_walls_are() {
 
 #[test]
 fn a_wall_that_a_loud_road_needs_cannot_go() {
-    let source = loud_source(example_source().moved(100_600, 100_000).uncut(250));
+    let source = as_loud_as_can_be(example_source().moved(100_600, 100_000).uncut(250));
     let mut book = Book::cleared();
     book.place_receiver(5, &example_receiver()).unwrap();
     assert_eq!(book.place_source(0, &source), Err(refused(13, 5)));
@@ -570,7 +552,7 @@ fn calls_on_walls_name_the_receiver_of_the_first_barred_pair() {
     book.walls[1] = Some(upright(109_701, 400));
     book.sources[3] = Some(far_source().uncut(400));
     assert_eq!(book.place_wall(5, &far), Err(refused(12, 1)));
-    book.sources[3] = Some(loud_source(far_source().uncut(250)));
+    book.sources[3] = Some(as_loud_as_can_be(far_source().uncut(250)));
     assert_eq!(book.place_wall(5, &far), Err(refused(14, 1)));
     // with one of the two gone the other one takes enough, or not
     book.walls[0] = Some(upright(109_700, 1));
