@@ -10,7 +10,7 @@ use Rattle.layout.proofs.Bounds.{both}
 use Rattle.road.specs.declared.Shares.{Shares}
 use Rattle.account.specs.declared.Account.{Account}
 use Rattle.level.specs.Level.{top}
-use Rattle.account.specs.Account.{sound, plusOf, minusOf, covers}
+use Rattle.account.specs.Account.{sound, covers}
 
 -- three tests on pairs of numbers
 three : (a b c d e f : ℕ) → (leb a b && leb c d && leb e f) ≡ true → (a ≤ b) × (c ≤ d) × (e ≤ f)
@@ -32,19 +32,3 @@ leaves x y t h = go (decLe y (t - x))
     go : Dec (y ≤ t - x) → leb y (t - x) ≡ leb (x + y) t
     go (yes k) = le-leb y (t - x) k ∙ sym (le-leb (x + y) t (omega arith))
     go (no k) = lt-leb y (t - x) (omega arith) ∙ sym (lt-leb (x + y) t (omega arith))
-
--- shares that were added can be taken off, and the account is as before
-pub covers-plus : (a : Account) (s : Shares) → covers (plusOf a s) s ≡ true
-covers-plus a s =
-    simp (
-      le-leb (s .day) (a .day + s .day) (omega arith),
-      le-leb (s .evening) (a .evening + s .evening) (omega arith),
-      le-leb (s .night) (a .night + s .night) (omega arith),
-    )
-
-pub given-back : (a : Account) (s : Shares) → minusOf (plusOf a s) s ≡ a
-given-back a s =
-    let d : a .day + s .day - s .day ≡ a .day = omega arith in
-    let e : a .evening + s .evening - s .evening ≡ a .evening = omega arith in
-    let n : a .night + s .night - s .night ≡ a .night = omega arith in
-    λ i. record { day = d i; evening = e i; night = n i }

@@ -1,6 +1,6 @@
 -- A receiver's account (METHOD 1): three energy sums, to which a source's three shares are added or from which they
 -- are taken.
-use Prim.Native.Nat.{ℕ, _+_, _-_}
+use Prim.Native.Nat.{_+_, _-_}
 use mathlib.Core.Bool.{Bool, _&&_}
 use lib.Dec.{leb}
 use Rattle.level.specs.Level.{top}

@@ -19,7 +19,7 @@ pub fn clear(store: &mut [u8]) -> Answer
     Answer::Done
 }
 
-// Places a source into a free slot and adds its shares to every receiver.
+// Places a source: its shares are added to every receiver, and those of the source in the slot, if there is one, are taken off.
 pub fn place_source(store: &mut [u8], slot: u16, s: Source) -> Answer
     ensures { λ r. ⌜ (r, now (store .exit)) ≡ onStore (placeSource slot s) (now (store .entry)) ⌝ }
 {
@@ -41,7 +41,7 @@ pub fn withdraw_source(store: &mut [u8], slot: u16) -> Answer
     undamaged::withdraw_source(&steps, store, slot)
 }
 
-// Places a receiver into a free slot with the shares of all standing sources.
+// Places a receiver, with the shares of all standing sources. Whoever was in the slot goes.
 pub fn place_receiver(store: &mut [u8], slot: u16, r: Receiver) -> Answer
     ensures { λ a. ⌜ (a, now (store .exit)) ≡ onStore (placeReceiver slot r) (now (store .entry)) ⌝ }
 {
@@ -63,7 +63,7 @@ pub fn withdraw_receiver(store: &mut [u8], slot: u16) -> Answer
     undamaged::withdraw_receiver(store, slot)
 }
 
-// Places a noise wall into a free slot and works every account out afresh.
+// Places a noise wall, and works every account out afresh. Whoever was in the slot goes.
 pub fn place_wall(store: &mut [u8], slot: u16, w: Wall) -> Answer
     ensures { λ r. ⌜ (r, now (store .exit)) ≡ onStore (placeWall slot w) (now (store .entry)) ⌝ }
 {

@@ -1,8 +1,9 @@
 -- A call refuses in the order of the numbers: each test is answered before those behind it.
 -- Assumes nothing.
 use Prim.Native.Nat.{ℕ}
-use mathlib.Core.Path.{_≡_}
-use mathlib.Core.Bool.{Bool, false}
+use mathlib.Core.Path.{_≡_, refl}
+use mathlib.Core.Bool.{Bool, true, false}
+use mathlib.Core.List.{List, [], _∷_}
 use mathlib.Core.Option.{Option, none, some}
 use Rattle.answer.specs.declared.Refusal.{Refusal}
 use Rattle.answer.specs.declared.Refusal.the-variants.{Damaged, Vacant}
@@ -11,7 +12,9 @@ use Rattle.road.specs.declared.Source.{Source}
 use Rattle.road.specs.declared.Receiver.{Receiver}
 use Rattle.road.specs.declared.Verdict.{Verdict}
 use Rattle.road.specs.declared.Verdict.the-variants.{Allowed, Refused}
+use Rattle.store.specs.declared.Held.{Held}
 use Rattle.store.specs.Store.{Book}
+use Rattle.ledger.specs.Lists.{present, every}
 use Rattle.calls.specs.Calls.{Step, allow, fromUsed, unlessBarred, unlessLate, refuse, placeSource, placeReceiver, placeWall}
 use Rattle.calls.specs.Calls.{withdrawSource, withdrawReceiver, withdrawWall, askReceiver}
 use Rattle.calls.specs.Order.{SourceOrder, ReceiverOrder, WallOrder, VacantOrder, InOrder}
@@ -28,6 +31,17 @@ by-late : (v : Verdict) (w : Option Refusal) (t : Bool) (k : Step) → v ≡ All
     → allow v (unlessBarred w (unlessLate t k)) ≡ refuse Damaged
 by-late v w t k e f g = rw (e, f, g)
 
+by-done : (v : Verdict) (w : Option Refusal) (t : Bool) (k : Step) → v ≡ Allowed → w ≡ none → t ≡ true → allow v (unlessBarred w (unlessLate t k)) ≡ k
+by-done v w t k e f g = rw (e, f, g)
+
+by-placed : (v : Verdict) (w : Option Refusal) (k : Step) → v ≡ Allowed → w ≡ none → allow v (unlessBarred w k) ≡ k
+by-placed v w k e f = rw (e, f)
+
+-- whoever is asked nothing can follow
+all-can : (l : List Held) → every (λ (x : Held). true) l ≡ true
+all-can [] = refl
+all-can (x ∷ l) = all-can l
+
 by-vacant : {A : Type 0} (v : Verdict) (o : Option A) (k : A → Step) → v ≡ Allowed → o ≡ none → allow v (fromUsed o k) ≡ refuse Vacant
 by-vacant v o k e f = rw (e, f)
 
@@ -35,15 +49,15 @@ by-vacant v o k e f = rw (e, f)
 
 source-order : (i : ℕ) (s : Source) (b : Book) → SourceOrder i s b
 unfolding placeSource
-source-order i s b = record { fields-first = by-fields _ _; then-barred = by-barred _ _ _; then-late = by-late _ _ _ _ }
+source-order i s b = record { fields-first = by-fields _ _; then-barred = by-barred _ _ _; then-late = by-late _ _ _ _; then-done = by-done _ _ _ _ }
 
 receiver-order : (j : ℕ) (r : Receiver) (b : Book) → ReceiverOrder j r b
 unfolding placeReceiver
-receiver-order j r b = record { fields-first = by-fields _ _; then-barred = by-barred _ _ _ }
+receiver-order j r b = record { fields-first = by-fields _ _; then-barred = by-barred _ _ _; then-done = by-placed _ _ _ }
 
 wall-order : (k : ℕ) (w : Wall) (b : Book) → WallOrder k w b
 unfolding placeWall
-wall-order k w b = record { fields-first = by-fields _ _; then-barred = by-barred _ _ _ }
+wall-order k w b = record { fields-first = by-fields _ _; then-barred = by-barred _ _ _; then-done = λ e f. by-done _ _ _ _ e f (all-can (present (b .receivers))) }
 
 -- ---- the calls on a slot that has to be used
 

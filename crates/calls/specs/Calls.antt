@@ -87,8 +87,8 @@ followed c after b =
     (unlessLate (every (c .fits) (present (b .receivers)))
     (change (after (map (omap (follow c)) (b .receivers)))))
 
--- ---- a slot that then holds o: whoever is in it goes, and whom o names comes, each there or not. To place is to let somebody come, to
--- withdraw is to let somebody go that is there
+-- ---- a slot that is to hold o: who is in it goes, and who is in o comes, each there or not. Placing: o is somebody. Withdrawing: o is nobody,
+-- and the slot has to be used
 
 -- source slot i
 abbrev pub changeSource : ℕ → Option Source → Book → Step

@@ -269,7 +269,7 @@ module _ (wall-slot : ℕ → Option Wall) (source-slot : ℕ → Option Source)
       let low : j ≤ lastReceiver = omega (arith, many-receivers) in
       rw (slot-passes lastReceiver j Allowed (low, refl), seat-is j low, e)
 
-  -- ---- a wall comes or goes: slot k then holds o
+  -- ---- walls are others: slot k then holds o
 
   module _ (k : ℕ) (o : Option Wall) where
     -- a pair among the walls that then stand

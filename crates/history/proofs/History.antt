@@ -105,6 +105,7 @@ wallsAfter k = inSlots wallSlots (wallAfter k)
 
 pub record Holds (b : List ℕ) (k : List Call) : Type 0 where
   pub sound : damaged b ≡ false
+  pub bytes : b ≡ bookBytes (bookOf b)
   pub filled : bookOf b ≡ fill (wallsAfter k) (sourcesAfter k) (receiversAfter k)
   pub standing : Standing (wallsAfter k) (sourcesAfter k) (receiversAfter k)
 
@@ -120,12 +121,12 @@ all-standing : {W X : List (Option Wall)} {S T : List (Option Source)} {Q R : Li
 all-standing {X = X} {S = S} {Q = Q} w s r p = subst₂ (Standing X) s r (subst (λ l. Standing l S Q) w p)
 
 holds-next : (b : List ℕ) (k : List Call) (c : Call) → Next (wallAfter k) (sourceAfter k) (seatAfter k) c (bookOf b) → damaged b ≡ false
-    → RealCall c → Holds b (c ∷ k)
-holds-next b k c n e real =
+    → b ≡ bookBytes (bookOf b) → RealCall c → Holds b (c ∷ k)
+holds-next b k c n e f real =
     let w = slots-moved wallSlots (wallMove c) (map wallMove k) in
     let s = slots-moved sourceSlots (sourceMove c) (map sourceMove k) in
     let r = slots-moved receiverSlots (receiverMove c) (map receiverMove k) in
-    record { sound = e; filled = n .0 ∙ (λ i. fill (w i) (s i) (r i)); standing = all-standing w s r (n .1 real) }
+    record { sound = e; bytes = f; filled = n .0 ∙ (λ i. fill (w i) (s i) (r i)); standing = all-standing w s r (n .1 real) }
 
 pub on-store : (f : Book → Step) (b : List ℕ) (x : Book) → damaged b ≡ false → bookOf b ≡ x → onStore f b ≡ told b (f x)
 unfolding onStore
@@ -174,6 +175,7 @@ module _ (laws : StoreLaws) where
       → replicate receiverSlots none ≡ receiversAfter k → Holds clearedBytes k
   holds-cleared k w s r = record {
     sound = laws .cleared-sound;
+    bytes = laws .cleared-bytes;
     filled = laws .cleared-book ∙ empty-filled ∙ (λ i. fill (w i) (s i) (r i));
     standing = all-standing w s r nobody;
   }
@@ -187,14 +189,14 @@ module _ (laws : StoreLaws) where
   fits-told b k c H (tell a) p =
       let t = p .1 .0 in
       record {
-        holds = λ real. rw t (holds-next b k c (H .filled ∙ p .1 .1 .0, p .1 .1 .1) (H .sound) real);
+        holds = λ real. rw t (holds-next b k c (H .filled ∙ p .1 .1 .0, p .1 .1 .1) (H .sound) (H .bytes) real);
         sound = λ e. let y : false ≡ true = ap accepted (sym e) ∙ t in never cc;
         rule = (λ e. p .0, λ n. t);
       }
   fits-told b k c H (change x) p = record {
     holds = λ real.
         let ok : SoundBook x = subst SoundBook (sym (p .1 .0)) (standing-sound _ _ _ (p .1 .1 real)) in
-        holds-next (bookBytes x) k c (laws .book-back x ok ∙ p .1 .0, p .1 .1) (laws .book-sound x ok) real;
+        holds-next (bookBytes x) k c (laws .book-back x ok ∙ p .1 .0, p .1 .1) (laws .book-sound x ok) (ap bookBytes (sym (laws .book-back x ok))) real;
     sound = λ e. never cc;
     rule = (λ e. p .0, λ n. refl);
   }

@@ -8,5 +8,6 @@ pub mod Keeps
 pub mod Numbers
 pub mod History
 pub mod Rebuild
+pub mod Setting
 pub mod Theorems
 pub mod Example

@@ -6,6 +6,7 @@ use Rattle.history.proofs.History.{calls-agree, accepted-number, refuse
 use Rattle.history.proofs.Keeps.{stays-sound}
 use Rattle.history.proofs.Numbers.{numbers}
 use Rattle.history.proofs.Rebuild.{rebuilt, anew-rebuilds}
+use Rattle.history.proofs.Setting.{same-bytes, in-one-call}
 
 pub theorems : StoreLaws → Theorems
 theorems laws = record {
@@ -14,6 +15,8 @@ theorems laws = record {
   accepts-by-rule = accepts-by-rule laws;
   rebuilt = rebuilt laws;
   anew-rebuilds = anew-rebuilds;
+  same-bytes = same-bytes laws;
+  in-one-call = in-one-call laws;
   clear-forgets = clear-forgets laws;
   accepted-number = accepted-number;
   numbers = numbers;

@@ -319,6 +319,25 @@ anew h =
     map source (inPlace 0 (inSlots sourceSlots (standingSource h)))
     ++ (map receiver (inPlace 0 (inSlots receiverSlots (standingReceiver h))) ++ map wall (inPlace 0 (inSlots wallSlots (standingWall h))))
 
+-- ---- fifth theorem: what stands decides every byte of the store. So to set in one call is to withdraw and to place, wherever these are accepted
+
+-- the same stands in every slot
+pub record SameStands (g h : List Call) : Type 0 where
+  pub sources : (i : ℕ) → standingSource g i ≡ standingSource h i
+  pub receivers : (j : ℕ) → standingReceiver g j ≡ standingReceiver h j
+  pub walls : (k : ℕ) → standingWall g k ≡ standingWall h k
+
+-- whoever is in the slot of a placing is withdrawn
+abbrev pub emptying : Placing → Call
+emptying (source x) = WithdrawSource (x .slot)
+emptying (receiver x) = WithdrawReceiver (x .slot)
+emptying (wall x) = WithdrawWall (x .slot)
+
+-- the placing alone is accepted, and leaves the bytes that it leaves after the withdrawal
+pub record InOneCall (h : List Call) (k : Placing) : Type 0 where
+  pub is-accepted : accepted (answerTo h (asCall k)) ≡ true
+  pub leaves : storeAfter (asCall k ∷ h) ≡ storeAfter (asCall k ∷ emptying k ∷ h)
+
 -- ---- what numbers the book may answer: done 0, damage 1, and 5 to 14 but not 8: a used slot is no reason to refuse
 
 abbrev pub BookNumber : ℕ → Type 0
@@ -332,6 +351,9 @@ pub record Theorems : Type 0 where
   pub accepts-by-rule : (h : List Call) → Real h → AcceptsByRule h
   pub rebuilt : (h : List Call) → Real h → (ks : List Placing) → Rebuilds h ks → Rebuilt h ks
   pub anew-rebuilds : (h : List Call) → Rebuilds h (anew h)
+  pub same-bytes : (g h : List Call) → Real g → Real h → SameStands g h → storeAfter g ≡ storeAfter h
+  pub in-one-call : (h : List Call) → Real h → (k : Placing) → RealCall (asCall k)
+      → accepted (answerTo h (emptying k)) ≡ true → accepted (answerTo (emptying k ∷ h) (asCall k)) ≡ true → InOneCall h k
   pub clear-forgets : (h : List Call) → Real h → (since : List Call) → storeAfter (since ++ Clear ∷ h) ≡ storeAfter since
   -- accepted are just the calls whose number is 0
   pub accepted-number : (a : Answer) → (accepted a ≡ true) ↔ (numberIn a ≡ 0)

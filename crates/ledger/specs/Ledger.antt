@@ -46,7 +46,7 @@ use Rattle.ledger.specs.Changes.{Change, follow, barOf, exchanged, excha
 
 -- ---- one receiver
 
--- a source on its round, and nobody: what it would send is not asked for
+-- a source on its round; and nobody, of whom it is not asked what it sends
 abbrev pub sender : Source → Sender
 sender s = record { sent = sentOf s; source = s; there = true }
 
@@ -57,14 +57,14 @@ nobody p = record { sent = p .sent; source = p .source; there = false }
 abbrev pub goesFrom : SourceSlot → Sender → Sender
 goesFrom t comes = cond (t .used) (sender (t .source)) (nobody comes)
 
--- who it is; and that it may send what it does
+-- the source of a sender, if there is one; and that one which is there is allowed, and sends what its source does
 abbrev pub sourceOf : Sender → Option Source
 sourceOf p = cond (p .there) (some (p .source)) none
 
 abbrev pub Sends : Sender → Type 0
 Sends p = p .there ≡ true → (sourceVerdict (p .source) ≡ Allowed) × (p .sent ≡ sentOf (p .source))
 
--- an account whose shares in the pair are exchanged for these
+-- the account after the shares of a pair are exchanged for others
 abbrev pub exchangedBy : Pair → Shares → Account → Turn
 exchangedBy (Heard less) more a = cond (exchanges less more a) (Moved (exchanged less more a)) Late
 exchangedBy (Bars b) more a = Late

@@ -33,24 +33,6 @@ pub fn example_receiver() -> Receiver {
     }
 }
 
-/// A source as loud as there is, where it is.
-pub fn as_loud_as_can_be(source: Source) -> Source {
-    let all = Traffic {
-        vehicles: 10_000_000,
-        trucks: 1000,
-    };
-    Source {
-        car_speed: 130,
-        surface: 4,
-        gradient: 120,
-        parallel_walls: 1,
-        parallel_height: 4000,
-        parallel_spacing: 1200,
-        traffic: [all; 3],
-        ..source
-    }
-}
-
 /// The source of the worked case at 25 m.
 pub fn example_source() -> Source {
     let mut source = Source {
@@ -288,6 +270,14 @@ pub(crate) fn loudest_source() -> Source {
         trucks: TRUCKS.most(),
     }; 3];
     source
+}
+
+/// A source made as loud as there is, where it lies.
+pub fn as_loud_as_can_be(source: Source) -> Source {
+    Source {
+        course: source.course,
+        ..loudest_source()
+    }
 }
 
 /// Records that place such roads, from either end, as the worked case has them, as loud as there

@@ -3,7 +3,7 @@
 // what a withdrawal and a placing are, where these are done.
 
 use reference::book::{decode, indices, Answer, Book, TOP};
-use reference::fields::{SOURCES, WALLS};
+use reference::fields::{RECEIVERS, SOURCES, WALLS};
 use reference::fixed::{fixed_frames, fixed_jobs};
 use reference::jobs::job;
 use reference::probe::Frame;
@@ -281,11 +281,10 @@ impl Latest {
 
     fn is_in(&self, book: &Book) -> bool {
         let receiver = |slot: i64| book.accounts[slot as usize].map(|account| account.receiver);
-        let slots = || 0..WALLS as i64;
-        let mut sources = 0..SOURCES as i64;
-        sources.all(|slot| book.sources[slot as usize] == self.sources.get(&slot).copied())
-            && slots().all(|slot| receiver(slot) == self.receivers.get(&slot).copied())
-            && slots().all(|slot| book.walls[slot as usize] == self.walls.get(&slot).copied())
+        let slots = |count: usize| 0..count as i64;
+        slots(SOURCES).all(|slot| book.sources[slot as usize] == self.sources.get(&slot).copied())
+            && slots(RECEIVERS).all(|slot| receiver(slot) == self.receivers.get(&slot).copied())
+            && slots(WALLS).all(|slot| book.walls[slot as usize] == self.walls.get(&slot).copied())
     }
 }
 

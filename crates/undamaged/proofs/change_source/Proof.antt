@@ -1,5 +1,5 @@
 -- `change_source` goes the round first and writes only if no receiver bars the change and every one can follow it. Assumes nothing.
-use mathlib.Core.Path.{_≡_, sym, ap, _∙_, subst₂}
+use mathlib.Core.Path.{sym, ap, _∙_, subst₂}
 use mathlib.Core.List.{List}
 use mathlib.Core.Option.{Option, none}
 use borrow.Author.Needs.{needs}

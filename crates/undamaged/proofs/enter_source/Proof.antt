@@ -1,15 +1,12 @@
 -- `enter_source` exchanges whoever is in the slot for the source that comes. Assumes nothing.
-use mathlib.Core.Path.{_≡_, refl, sym, ap, _∙_, subst}
-use mathlib.Core.List.{List}
+use mathlib.Core.Path.{refl, sym, ap, _∙_, subst}
 use mathlib.Core.Option.{Option}
-use Prim.Native.Nat.{ℕ}
 use borrow.Author.Needs.{needs}
 use Rattle.road.specs.declared.Source.{Source}
 use Rattle.store.specs.Store.{bookOf}
 use Rattle.store.proofs.Laws.{undamaged}
 use Rattle.ledger.specs.Ledger.{sourceOf, Sends}
 use Rattle.ledger.proofs.Entries.{source-slot-entry, source-slot-stands, goes-is, goes-sends}
-use Rattle.calls.specs.declared.Answer.{Answer}
 use Rattle.calls.specs.Calls.{told, changeSource}
 use Rattle.undamaged.proofs.enter_source.Statement.{statement}
 use Rattle.undamaged.proofs.enter_source.Tie as tie

@@ -6,6 +6,7 @@ use reference::chance::Chance;
 use reference::course::Course;
 use reference::cuts::{span, within};
 use reference::fields::{HEIGHT, LANES, LENGTH, MINUS, RECEIVERS, SOURCES, SURFACE, WALL_HEIGHT};
+use reference::listing::list;
 use reference::record::Record;
 use reference::road::{Receiver, Source, Traffic};
 use reference::town::{surfaces_at, Draft, WIDE};
@@ -150,6 +151,8 @@ fn edited(chance: &mut Chance) -> [Vec<u8>; 2] {
         ask_any(&mut draft, chance);
         in_one.extend(&draft.bytes[withdrawn..]);
     }
+    let tally = list(&in_one, &mut Vec::new());
+    assert_eq!(tally.refusals.iter().sum::<u64>(), 0);
     [draft.bytes, in_one]
 }
 

@@ -11,7 +11,6 @@ use Rattle.account.specs.Account.{plusOf, minusOf, covers, room}
 use Rattle.ledger.specs.declared.round.Turn.{Turn}
 use Rattle.ledger.specs.declared.round.Turn.the-variants.{Moved, Late}
 use Rattle.ledger.specs.Ledger.{exchangedBy}
-use Rattle.ledger.proofs.Rounds.{and-false}
 use Rattle.ledger.proofs.round.exchanged.Statement.{statement}
 use Rattle.ledger.proofs.round.exchanged.Tie as tie
 

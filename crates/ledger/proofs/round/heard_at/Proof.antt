@@ -1,5 +1,5 @@
 -- `heard_at` works out the pair of somebody; nobody brings nothing. Assumes nothing.
-use mathlib.Core.Path.{_≡_, sym, ap, _∙_}
+use mathlib.Core.Path.{sym, ap, _∙_}
 use mathlib.Core.Bool.{Bool, cond}
 use mathlib.Core.Option.{none, some}
 use Rattle.screen.specs.Screen.{wallsOf}

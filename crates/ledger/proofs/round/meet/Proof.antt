@@ -1,5 +1,5 @@
 -- `meet` works out the pair that comes, then the one that goes, and exchanges their shares. Assumes nothing.
-use mathlib.Core.Path.{_≡_, sym, ap, _∙_}
+use mathlib.Core.Path.{_≡_, sym, _∙_}
 use mathlib.Core.Option.{Option}
 use borrow.Author.Needs.{needs}
 use Rattle.screen.specs.Screen.{wallsOf}
