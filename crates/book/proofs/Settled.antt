@@ -26,5 +26,5 @@ place-wall-settled l a = settled _ _
 withdraw-wall-settled : SettlesBoth (λ l a e. now (e .0)) proofs.withdraw_wall.Reads.Post
 withdraw-wall-settled l a = settled _ _
 
-ask-settled : SettlesBoth (λ l a e. now (e .0)) proofs.ask.Reads.Post
+ask-settled : SettlesBoth (λ l a e. now (a .0)) proofs.ask.Reads.Post
 ask-settled l a = settled _ _

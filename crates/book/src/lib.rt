@@ -86,8 +86,8 @@ pub fn withdraw_wall(store: &mut [u8], slot: u16) -> Answer
 }
 
 // Asks a receiver for its two indices.
-pub fn ask(store: &mut [u8], slot: u16) -> Answer
-    ensures { λ r. ⌜ (r, now (store .exit)) ≡ onStore (askReceiver slot) (now (store .entry)) ⌝ }
+pub fn ask(store: &[u8], slot: u16) -> Answer
+    ensures { λ r. ⌜ (r, now (store .entry)) ≡ onStore (askReceiver slot) (now (store .entry)) ⌝ }
 {
     let steps = level::table::steps();
     if store::damaged(&steps, store) {

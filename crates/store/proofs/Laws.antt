@@ -1,13 +1,14 @@
 -- Bytes and book say the same: an undamaged store is the bytes of its book, a sound book is the book of its bytes, and a write of a slot is
 -- a change of one entry. Assumes nothing.
 use Prim.Native.Nat.{ℕ, zero, suc, _+_, _*_, _≤_, _<_}
+use mathlib.Core.Logic.{_≢_}
 use mathlib.Core.Path.{_≡_, refl, sym, ap, ap₂, _∙_, subst}
 use mathlib.Core.Bool.{Bool, true, false, cond, not, _||_}
 use mathlib.Core.List.{List, [], _∷_, _++_, append-nil, append-assoc}
 use mathlib.Core.Option.{Option, none, some}
 use native.Mathlib.Numerals.{add-one}
 use native.Mathlib.Omega.{arith}
-use borrow.Author.Tests.{eqb-true, eq-eqb, not-false}
+use borrow.Author.Tests.{eqb-true, eq-eqb, ne-eqb, not-false}
 use lib.Dec.{eqb}
 use lib.ListN.{length, getD, drop, set, replicate, length-append, length-set, length-replicate, drop-of-length-le, replicate-append-replicate}
 use lib.Seq.{drop-at, drop-cons}
@@ -64,6 +65,13 @@ undamaged s e =
     (eqb-true (length s) storeLength (not-false (eqb (length s) storeLength) (p .0)), q .0, r .0, r .1)
 
 -- and damage where the length is right: a torn slot of any kind
+-- a store of another length is damaged
+pub wrong-length : (s : List ℕ) → length s ≢ storeLength → damaged s ≡ true
+unfolding damaged
+wrong-length s h =
+    ap (λ (b : Bool). not b || (anyTorn (found sourceParty s) || (anyTorn (found heldParty (drop split s)) || anyTorn (found wallParty (drop wallsBegin s)))))
+    (ne-eqb (length s) storeLength h)
+
 pub torn-damage : (s : List ℕ) (a b c : Bool) → length s ≡ storeLength → anyTorn (found sourceParty s) ≡ a
     → anyTorn (found heldParty (drop split s)) ≡ b → anyTorn (found wallParty (drop wallsBegin s)) ≡ c → damaged s ≡ (a || (b || c))
 unfolding damaged

@@ -1,27 +1,18 @@
 -- `damaged` looks at the length, then at the source slots, the receiver slots and the wall slots.
 -- Assumes nothing.
-use Prim.Native.Nat.{ℕ}
-use mathlib.Core.Path.{_≡_, refl, sym, ap, _∙_}
-use mathlib.Core.Bool.{Bool, true, not, _||_}
-use mathlib.Core.List.{List}
-use borrow.Author.Tests.{ne-eqb}
+use mathlib.Core.Path.{refl, sym, _∙_}
+use mathlib.Core.Bool.{true}
 use denote.Ref.{now}
-use lib.ListN.{length, drop}
+use lib.ListN.{drop}
 use Rattle.store.specs.Slots.{found, anyTorn}
-use Rattle.store.specs.Store.{storeLength, split, wallsBegin, sourceParty, heldParty, wallParty, damaged}
-use Rattle.store.proofs.Laws.{torn-damage}
+use Rattle.store.specs.Store.{storeLength, split, wallsBegin, sourceParty, heldParty, wallParty}
+use Rattle.store.proofs.Laws.{wrong-length, torn-damage}
 use Rattle.store.proofs.damaged.Statement.{statement}
 use Rattle.store.proofs.damaged.Tie as tie
 
-wrong : (s : List ℕ) → (length s ≡ storeLength → ⊥) → damaged s ≡ true
-unfolding damaged
-wrong s h =
-    ap (λ (b : Bool). not b || (anyTorn (found sourceParty s) || (anyTorn (found heldParty (drop split s)) || anyTorn (found wallParty (drop wallsBegin s)))))
-    (ne-eqb (length s) storeLength h)
-
 returns : tie.Need-returns
 unfolding storeLength
-returns c = sym (wrong _ (c .if1 .taken))
+returns c = sym (wrong-length _ (c .if1 .taken))
 
 any-torn-requires : tie.Need-any-torn-requires
 unfolding storeLength
