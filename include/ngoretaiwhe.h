@@ -3,7 +3,8 @@
  * `rt staticlib viewer` proves the three functions and builds them into libviewer.a, for x86-64.
  *
  * A call comes back for every input, with 0 or with one refusal, and a refusal changes no byte of what was lent. Nothing has to be
- * checked first: a store of another length, that was never cleared, or that something else wrote into is refused as damaged.
+ * checked first: bytes that are no book are refused as damaged. What can be seen is in docs/STORE.md; bytes that something else wrote
+ * and that happen to be another book cannot be told from it. All zeros are a cleared store.
  *
  * A caller owes what any C function is owed that takes a pointer and a length:
  *   - A pointer has as many bytes behind it as the length beside it says. With the length 0 it may be NULL: it is not followed.
@@ -35,8 +36,8 @@ extern "C" {
 #define NGORETAIWHE_WALLS 64
 
 /*
- * The numbers. The lowest one that applies is given, pair by pair for 10 to 14; but a 2 for what follows a record or for the length
- * of an output is the last of all, and so is a 1 for sums that do not go with the roads that stand.
+ * The numbers. The lowest one that applies is given, pair by pair for 10 to 14. Two come late: a 1 for sums that do not go with the
+ * roads that stand, after all others, and a 2 for bytes that follow a record or for the length of an output, after that too.
  */
 enum ngoretaiwhe_refusal {
     NGORETAIWHE_DONE = 0,         /* done, or told */

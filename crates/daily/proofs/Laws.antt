@@ -156,4 +156,4 @@ daily-within c d s e =
 -- it is refused 5, 6 or 7 and no other
 pub daily-by : (c : Course) (d : Daily) (s : Source) → ByFields (dailyVerdict c d s)
 unfolding dailyVerdict
-daily-by c d s = course-by c _ (outside-by roadTable s _ (outside-by dailyTable d _ (rest-by (counted c d s))))
+daily-by c d s = course-by c _ (outside-by roadTable refl s _ (outside-by dailyTable refl d _ (rest-by (counted c d s))))

@@ -5,12 +5,14 @@ use mathlib.Core.Logic.{_≢_}
 use mathlib.Core.Bool.{Bool, true, false}
 use mathlib.Core.Option.{Option, none, some}
 use mathlib.Core.List.{List, [], _∷_, map}
-use Prim.Native.Nat.{ℕ, suc, _≤_}
+use Prim.Native.Nat.{ℕ, suc, _+_, _≤_, _<_}
+use native.Mathlib.Nat.{le-refl}
 use native.Mathlib.Omega.{arith}
 use borrow.Author.Tests.{le-leb}
+use lib.ListN.{length}
 use Rattle.answer.specs.declared.Refusal.{Refusal}
 use Rattle.answer.specs.declared.Refusal.the-variants.{Damaged}
-use Rattle.answer.specs.Table.{numberOf, Between}
+use Rattle.answer.specs.Table.{numberOf, placeOf}
 use Rattle.road.specs.declared.Source.{Source}
 use Rattle.road.specs.declared.Receiver.{Receiver}
 use Rattle.road.specs.declared.Bar.the-variants.{Near, Far, Long, Loud, Walls}
@@ -56,9 +58,10 @@ module _ (N : Type 0) (Q : Answer → Type 0) (P : Book → Type 0) where
 
 -- ---- bars
 
-abbrev pub ByPair : Option Refusal → Type 0
-ByPair none = Unit {0}
-ByPair (some why) = Between 10 14 (numberOf why)
+-- 10 to 14, at a slot below n
+abbrev pub ByPair : ℕ → Option Refusal → Type 0
+ByPair n none = Unit {0}
+ByPair n (some why) = (10 ≤ numberOf why) × (numberOf why ≤ 14) × (placeOf why < n)
 
 module _ {A : Type 0} (pair : A → Pair) where
   pub bars-none : (j : ℕ) (l : List (Option A)) → heardAll pair l → firstBar pair j l ≡ none
@@ -71,23 +74,23 @@ module _ {A : Type 0} (pair : A → Pair) where
       go (Heard h) t e = e
       go (Barred b) t e = never cc
 
-  -- a bar is refused 10 to 14, and so not for damage
-  pub bars-by : (j : ℕ) (l : List (Option A)) → ByPair (firstBar pair j l)
+  -- a bar is refused 10 to 14, at the slot of one of them, and so not for damage
+  pub bars-by : (n j : ℕ) (l : List (Option A)) → j + length l ≤ n → ByPair n (firstBar pair j l)
   unfolding firstBar
-  bars-by j [] = tt
-  bars-by j (none ∷ l) = bars-by (suc j) l
-  bars-by j (some a ∷ l) = go (pair a) (bars-by (suc j) l)
+  bars-by n j [] h = tt
+  bars-by n j (none ∷ l) h = bars-by n (suc j) l (omega arith)
+  bars-by n j (some a ∷ l) h = go (pair a) (bars-by n (suc j) l (omega arith))
     where
-      go : (p : Pair) → ByPair (firstBar pair (suc j) l) → ByPair (orBar j p (firstBar pair (suc j) l))
-      go (Heard h) n = n
-      go (Barred Near) n = (omega arith, omega arith)
-      go (Barred Far) n = (omega arith, omega arith)
-      go (Barred Long) n = (omega arith, omega arith)
-      go (Barred Loud) n = (omega arith, omega arith)
-      go (Barred Walls) n = (omega arith, omega arith)
+      go : (p : Pair) → ByPair n (firstBar pair (suc j) l) → ByPair n (orBar j p (firstBar pair (suc j) l))
+      go (Heard x) m = m
+      go (Barred Near) m = (omega arith, omega arith, omega arith)
+      go (Barred Far) m = (omega arith, omega arith, omega arith)
+      go (Barred Long) m = (omega arith, omega arith, omega arith)
+      go (Barred Loud) m = (omega arith, omega arith, omega arith)
+      go (Barred Walls) m = (omega arith, omega arith, omega arith)
 
   pub bars-apart : (j : ℕ) (l : List (Option A)) → firstBar pair j l ≢ some Damaged
-  bars-apart j l e = omega (arith, subst ByPair e (bars-by j l) .0)
+  bars-apart j l e = omega (arith, subst (ByPair (j + length l)) e (bars-by (j + length l) j l (le-refl (j + length l))) .0)
 
 pub bars-omap : {A B : Type 0} (f : A → B) (pair : B → Pair) (j : ℕ) (l : List (Option A))
     → firstBar pair j (map (omap f) l) ≡ firstBar (λ (a : A). pair (f a)) j l

@@ -4,7 +4,7 @@ use Rattle.history.specs.History.{Theorems}
 use Rattle.history.proofs.Laws.{StoreLaws, store-laws}
 use Rattle.history.proofs.History.{calls-agree, accepted-number, refused-leaves, clear-forgets, never-late, accepts-by-rule, holds-what-stands}
 use Rattle.history.proofs.Keeps.{stays-sound}
-use Rattle.history.proofs.Numbers.{numbers}
+use Rattle.history.proofs.Numbers.{numbers, places}
 use Rattle.history.proofs.Rebuild.{rebuilt, anew-rebuilds}
 use Rattle.history.proofs.Setting.{same-bytes, in-one-call}
 
@@ -20,6 +20,7 @@ theorems laws = record {
   clear-forgets = clear-forgets laws;
   accepted-number = accepted-number;
   numbers = numbers;
+  places = places;
   refused-leaves = refused-leaves;
   stays-sound = stays-sound;
   agrees = calls-agree;

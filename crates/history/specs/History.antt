@@ -19,11 +19,11 @@ use Rattle.road.specs.Pairs.{isHeard, shareIn}
 use Rattle.road.specs.Judge.{sourceVerdict, receiverVerdict, wallVerdict}
 use Rattle.index.specs.Index.{ldenOf, lnightOf}
 use Rattle.store.specs.declared.Held.{Held}
-use Rattle.store.specs.Store.{Book, damaged, bookOf, clearedBytes, sourceSlots, receiverSlots, wallSlots}
+use Rattle.store.specs.Store.{Book, damaged, bookOf, clearedBytes, sourceCount, sourceSlots, receiverSlots, wallSlots}
 use Rattle.calls.specs.declared.Answer.{Answer}
 use Rattle.calls.specs.declared.Answer.the-variants.{Done, Levels, Refused}
 use Rattle.ledger.specs.Lists.{omap, present, All, sumOf}
-use Rattle.calls.specs.Calls.{numberIn, used, placeSource, withdrawSource, placeReceiver, withdrawReceiver, placeWall, withdrawWall}
+use Rattle.calls.specs.Calls.{numberIn, placeIn, used, placeSource, withdrawSource, placeReceiver, withdrawReceiver, placeWall, withdrawWall}
 use Rattle.calls.specs.Calls.{askReceiver, onStore, clearStore}
 
 -- ---- a history: any calls, the latest first, refused ones among them
@@ -358,6 +358,8 @@ pub record Theorems : Type 0 where
   -- accepted are just the calls whose number is 0
   pub accepted-number : (a : Answer) → (accepted a ≡ true) ↔ (numberIn a ≡ 0)
   pub numbers : (c : Call) (b : List ℕ) → BookNumber (numberIn (perform c b .0))
+  -- a place is a field's number or a slot, and neither is beyond the slots of sources
+  pub places : (c : Call) (b : List ℕ) → placeIn (perform c b .0) < sourceCount
   pub refused-leaves : (c : Call) (b : List ℕ) → accepted (perform c b .0) ≡ false → perform c b .1 ≡ b
   pub stays-sound : (c : Call) → RealCall c → (b : List ℕ) → damaged b ≡ false → damaged (perform c b .1) ≡ false
   pub agrees : (c : Call) (b : List ℕ) → Agree (λ (o : Answer × List ℕ). o) (λ (o : Answer × List ℕ). o ≡ perform c b)

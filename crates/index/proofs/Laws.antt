@@ -1,4 +1,5 @@
--- Bounds: the level of a sum is at most 117.09 dB, and the energies of the three periods add up to less than 2^64. Assumes nothing.
+-- Bounds: the level of a sum is at most 117.09 dB, the energies of the three periods add up to less than 2^64, and no index is above 200 dB.
+-- Assumes nothing.
 use mathlib.Core.Path.{_≡_, refl, sym, ap, _∙_, subst}
 use Prim.Native.Nat.{ℕ, _+_, _*_, _^_, _≤_, _<_}
 use native.Mathlib.Decide.{decLt}
@@ -11,7 +12,9 @@ use Rattle.level.specs.declared.Loudness.the-variants.{Level}
 use Rattle.level.specs.declared.Loudness.the-variants.{Quiet as Unheard}
 use Rattle.level.proofs.Laws.{level-below, level-reached, energy-rises, energy-decade, heard-quiet, heard-level}
 use Rattle.level.specs.Level.{top}
-use Rattle.index.specs.Index.{levelIn, lift, liftedOf}
+use Rattle.index.specs.declared.Index.{Index}
+use Rattle.index.specs.declared.Index.the-variants.{Quiet, Tenths}
+use Rattle.index.specs.Index.{levelIn, tenthsOf, lift, liftedOf, lnightOf, dayEveningNight, ldenOf}
 
 -- three entries of the table, worked out
 pub loudest : energyOf 11710 ≡ 512861400000000000
@@ -59,3 +62,22 @@ lifted-evening n s l h = omega (arith, lifted-most n s h, energy-rises (11709 + 
 
 pub lifted-night : (n s : ℕ) → n ≤ 1000 → s ≤ top → liftedOf n s ≤ 5116818000000000000
 lifted-night n s l h = omega (arith, lifted-most n s h, energy-rises (11709 + n) 12709 (omega arith), night-most)
+
+-- ---- an index is at most 200 dB, where the sums are within their bound
+
+abbrev pub Small : Index → Type 0
+Small Quiet = Unit {0}
+Small (Tenths n) = n ≤ 2000
+
+tenths-small : (x : Loudness) → levelIn x < 20000 → Small (tenthsOf x)
+tenths-small Unheard h = tt
+tenths-small (Level l) h = omega arith
+
+pub lnight-small : (night : ℕ) → night ≤ top → Small (lnightOf night)
+lnight-small night h = tenths-small (loudnessOf night) (omega (arith, level-small night h))
+
+pub lden-small : (day evening night : ℕ) → day ≤ top → evening ≤ top → night ≤ top → Small (ldenOf day evening night)
+lden-small day evening night h k l =
+    tenths-small (loudnessOf (dayEveningNight day evening night))
+    (level-any (dayEveningNight day evening night)
+    (omega (arith, lifted-day day h, lifted-evening 500 evening (omega arith) k, lifted-night 1000 night (omega arith) l)))

@@ -156,7 +156,7 @@ above q x r n d =
     ∙ mul-add-mod-self-right (q * 2 ^ r) (2 ^ n) (x / 2 ^ d)
 
 -- the bits out of the k bytes from index f on that hold them
-pub window : (at d : ℕ) (s : List ℕ) (n f k u : ℕ) → Bytes s → f + k ≤ length s → 8 * f ≤ at → at + n + d ≡ 8 * (f + k) → u + d + n ≡ 64
+window : (at d : ℕ) (s : List ℕ) (n f k u : ℕ) → Bytes s → f + k ≤ length s → 8 * f ≤ at → at + n + d ≡ 8 * (f + k) → u + d + n ≡ 64
     → num (take k (drop f s)) * 2 ^ u % 2 ^ 64 / 2 ^ (64 - n) ≡ bits at n s
 window at d s n f k u h l g e w =
     let x = num (take k (drop f s)) in
@@ -172,3 +172,8 @@ window at d s n f k u h l g e w =
     ∙ ap (λ (y : ℕ). (q * 2 ^ y + x) / 2 ^ d % 2 ^ n) (sym i)
     ∙ ap (λ (y : ℕ). y / 2 ^ d % 2 ^ n) (sym (num-append (take f s) (take k (drop f s))) ∙ ap num (sym (take-add f k s)))
     ∙ sym (bits-take s at n d (f + k) h l e)
+
+-- out of any k bytes from the field's first one on that hold it
+pub window-at : (s : List ℕ) (at n k u : ℕ) → Bytes s → at / 8 + k ≤ length s → at % 8 + n ≤ 8 * k → u + 8 * k ≡ 64 + at % 8
+    → num (take k (drop (at / 8) s)) * 2 ^ u % 2 ^ 64 / 2 ^ (64 - n) ≡ bits at n s
+window-at s at n k u h i l e = window at (8 * k - (at % 8 + n)) s n (at / 8) k u h i (omega arith) (omega arith) (omega arith)

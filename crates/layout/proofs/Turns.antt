@@ -3,7 +3,7 @@ use Prim.Native.Nat.{ℕ, suc, _+_, _-_, _*_, _/_, _%_, _^_, _≤_, _<_}
 use mathlib.Core.Path.{_≡_, refl, sym, ap, ap₂, _∙_}
 use mathlib.Core.Bool.{true, _&&_}
 use mathlib.Core.List.{List, [], _∷_, _++_, append-assoc, append-nil}
-use native.Mathlib.Nat.{mod-eq-of-lt, mod-lt, lt-of-lt-of-le, pow-suc, mul-assoc, add-mul, add-assoc, zero-mul, one-mul, sub-zero}
+use native.Mathlib.Nat.{mod-eq-of-lt, mod-lt, lt-of-lt-of-le, pow-suc, mul-assoc, add-mul, add-assoc, add-zero, zero-mul, one-mul, sub-zero}
 use native.Mathlib.Numerals.{add-one}
 use native.Mathlib.Omega.{arith}
 use borrow.Author.Tests.{leb-true}
@@ -11,11 +11,11 @@ use lib.Arith.{digits-lt}
 use lib.Dec.{leb}
 use lib.ListN.{length, getD, take, drop, set, length-take, length-drop}
 use lib.Pow.{pow-pos, pow-mono, pow-add, split, shl-exact}
-use lib.Seq.{drop-cons, drop-length, take-length, getD-drop, take-suc-set}
+use lib.Seq.{drop-cons, drop-drop, drop-length, take-add, take-length, length-take-le, getD-drop, take-suc-set}
 use Rattle.layout.specs.Layout.{sum, pack, unpack, Within, Bytes, num, bytesOf, bits, size, sized, narrow, fields, packed}
 use Rattle.layout.specs.Over.{over}
 use Rattle.layout.proofs.Packing.{pack-lt}
-use Rattle.layout.proofs.Numbers.{num-lt, num-snoc, bytes-take, bytes-drop, bytesOf-cons, bytesOf-none, bytesOf-append, length-bytesOf, bits-take}
+use Rattle.layout.proofs.Numbers.{num-lt, num-none, num-append, num-snoc, bytes-take, bytes-drop, bytesOf-cons, bytesOf-none, bytesOf-append, length-bytesOf, bits-take}
 use Rattle.layout.proofs.Writes.{over-cons, over-none, over-next, length-over}
 use Rattle.layout.proofs.Bounds.{both}
 use Rattle.layout.proofs.Laws.{sized-narrow, sized-whole, length-packed}
@@ -30,6 +30,25 @@ pub number-lt : (s : List ℕ) (at i : ℕ) → Bytes s → i ≤ 7 → num (tak
 number-lt s at i b h =
     lt-of-lt-of-le (num-lt (take i (drop at s)) (bytes-take i (drop at s) (bytes-drop at s b)))
     (pow-mono {i = 8 * length (take i (drop at s))} {j = 56} (rw length-take (omega arith)))
+
+-- `four` and `eight`: bytes read at once are bytes read one by one
+pub number-four : (s : List ℕ) (at a b c d : ℕ) → at + 4 ≤ length s → a ≡ getD s at 0 → b ≡ getD s (at + 1) 0 → c ≡ getD s (at + 2) 0
+    → d ≡ getD s (at + 3) 0 → a * 16777216 + b * 65536 + c * 256 + d ≡ num (take 4 (drop at s))
+number-four s at a b c d h e f g i =
+    let one = number-more s at 0 0 a (omega arith) (e ∙ ap (λ (k : ℕ). getD s k 0) (sym (add-zero at))) (sym num-none) in
+    let two = number-more s at 1 (0 * 256 + a) b (omega arith) f one in
+    let three = number-more s at 2 ((0 * 256 + a) * 256 + b) c (omega arith) g two in
+    let l : a * 16777216 + b * 65536 + c * 256 + d ≡ (((0 * 256 + a) * 256 + b) * 256 + c) * 256 + d = omega arith in
+    l ∙ number-more s at 3 (((0 * 256 + a) * 256 + b) * 256 + c) d (omega arith) i three
+
+pub number-eight : (s : List ℕ) (at x y : ℕ) → at + 8 ≤ length s → x ≡ num (take 4 (drop at s)) → y ≡ num (take 4 (drop (at + 4) s))
+    → x * 4294967296 + y ≡ num (take 8 (drop at s))
+number-eight s at x y h e f =
+    let t = drop at s in
+    let u = take 4 (drop 4 t) in
+    let n : length u ≡ 4 = length-take-le 4 (drop 4 t) (rw (length-drop, length-drop) (omega arith)) in
+    ap₂ (λ (p q : ℕ). p * 4294967296 + q) e (f ∙ ap (λ (l : List ℕ). num (take 4 l)) (sym (drop-drop 4 at s)))
+    ∙ sym (ap num (take-add 4 4 t) ∙ num-append (take 4 t) u ∙ ap (λ (k : ℕ). num (take 4 t) * 2 ^ (8 * k) + num u) n)
 
 -- `put_number`: a byte less is left
 pub number-put : (s t : List ℕ) (i left x : ℕ) → i < length s → 1 ≤ left → over i (bytesOf left x) s ≡ t

@@ -37,14 +37,40 @@ pub fn number(s: &[u8], at: usize, n: usize) -> u64
     acc
 }
 
-// The n bits of s from bit at on.
+// The number of the four bytes of s from index at on, all at once.
+fn four(s: &[u8], at: usize) -> u64
+    requires { ⌜ at + 4 ≤ length (now s) ⌝ }
+    ensures { λ r. ⌜ (r ≡ num (take 4 (drop at (now (s .entry))))) × (r < 2 ^ 32) ⌝ }
+{
+    let a = wide(s[at]);
+    let b = wide(s[at + 1]);
+    let c = wide(s[at + 2]);
+    let d = wide(s[at + 3]);
+    a * 16777216 + b * 65536 + c * 256 + d
+}
+
+// The number of the eight bytes of s from index at on.
+fn eight(s: &[u8], at: usize) -> u64
+    requires { ⌜ at + 8 ≤ length (now s) ⌝ }
+    ensures { λ r. ⌜ r ≡ num (take 8 (drop at (now (s .entry)))) ⌝ }
+{
+    let high = four(s, at);
+    let low = four(s, at + 4);
+    high * 4294967296 + low
+}
+
+// The n bits of s from bit at on. Where eight bytes are there, they are read at once: most fields of a store and of a job.
 pub fn field(s: &[u8], at: usize, n: usize) -> u64
     requires { ⌜ (1 ≤ n) × (at % 8 + n ≤ 64) × (at + n ≤ 8 * length (now s)) ⌝ }
     ensures { λ r. ⌜ r ≡ bits at n (now (s .entry)) ⌝ }
 {
     let r = at % 8;
+    let from = at / 8;
+    if from + 8 <= s.len() {
+        return (eight(s, from) << r) >> (64 - n);
+    }
     let k = (r + n + 7) / 8;
-    let x = number(s, at / 8, k);
+    let x = number(s, from, k);
     let up = 64 - 8 * k + r;
     (x << up) >> (64 - n)
 }

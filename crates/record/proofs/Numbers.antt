@@ -47,7 +47,7 @@ reader job =
 -- ---- writing
 
 written-by : (v : Verdict) (bytes out : List ℕ) → ByFields v → WriterNumber (numberWritten (writtenBy v bytes out .0))
-written-by (verdict.Refused why) bytes out n = inr (inr n)
+written-by (verdict.Refused why) bytes out n = inr (inr (n .0, n .1))
 written-by verdict.Allowed bytes out n = go (ltb (length out) (length bytes))
   where
     go : (t : Bool) → WriterNumber (numberWritten (cond {A = Written × List ℕ} t (written.Refused CutShort, out) (written.Done, bytes ++ drop (length bytes) out) .0))

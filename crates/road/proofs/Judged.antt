@@ -1,9 +1,9 @@
--- What a search among the fields says of the verdict, what an allowed slot is, and that a verdict is refused 5, 6 or 7 and no other.
+-- What a search among the fields says of the verdict, what an allowed slot is, and that a verdict is refused 5, 6 or 7 and no other, at a low place.
 -- Assumes nothing.
 use Prim.Native.Nat.{ℕ, zero, suc, _+_, _≤_, _<_}
 use mathlib.Core.Path.{_≡_, refl, sym, ap, _∙_, subst}
 use mathlib.Core.Logic.{_≢_}
-use mathlib.Core.Bool.{Bool, true, false, cond}
+use mathlib.Core.Bool.{Bool, true, false, cond, _&&_}
 use mathlib.Core.List.{List, [], _∷_, _++_}
 use native.Mathlib.Nat.{not-suc-le-zero, le-of-suc-le-suc}
 use native.Mathlib.Omega.{arith}
@@ -11,8 +11,9 @@ use borrow.Author.Tests.{lt-ltb, le-ltb, ltb-true, leb-true}
 use lib.Dec.{ltb, leb}
 use lib.ListN.{length, length-append}
 use Rattle.layout.specs.Bounds.{allowed, onwards}
+use Rattle.layout.proofs.Bounds.{both}
 use Rattle.answer.specs.declared.Refusal.the-variants.{Damaged, Field, SlowSurface, QuietTruck}
-use Rattle.answer.specs.Table.{numberOf, Between}
+use Rattle.answer.specs.Table.{numberOf, placeOf}
 use Rattle.course.specs.declared.Course.{Course}
 use Rattle.course.specs.declared.Course.the-variants as course
 use Rattle.screen.specs.declared.Wall.{Wall}
@@ -80,29 +81,40 @@ slot-allowed most slot v e = go (leb slot most) refl e
     go true h f = (leb-true slot most h, f)
     go false h f = let z : _≡_ {A = ℕ} 0 1 = cc in absurd (omega arith)
 
--- ---- the numbers of a verdict
+-- ---- the numbers of a verdict, and its places: a field's number is low
 
 abbrev pub ByFields : Verdict → Type 0
 ByFields Allowed = Unit {0}
-ByFields (Refused why) = Between 5 7 (numberOf why)
+ByFields (Refused why) = (5 ≤ numberOf why) × (numberOf why ≤ 7) × (placeOf why < 32)
 
 either-by : (t : Bool) (v w : Verdict) → ByFields v → ByFields w → ByFields (cond t v w)
 either-by true v w m n = m
 either-by false v w m n = n
 
-pub outside-by : {A : Type 0} (t : List (Row A)) (a : A) (v : Verdict) → ByFields v → ByFields (unlessOutside t a v)
-outside-by t a v n = either-by (ltb (outsideBy t a) (length t)) (Refused (Field (numberAt t (outsideBy t a)))) v (omega arith, omega arith) n
+-- no row of a table has a higher number
+abbrev pub lowNumbers : {A : Type 0} → List (Row A) → Bool
+lowNumbers [] = true
+lowNumbers (r ∷ t) = ltb (r .number) 32 && lowNumbers t
+
+low-at : {A : Type 0} (t : List (Row A)) → lowNumbers t ≡ true → (i : ℕ) → numberAt t i < 32
+low-at [] e i = omega arith
+low-at (r ∷ t) e zero = ltb-true (r .number) 32 (both (ltb (r .number) 32) (lowNumbers t) e .0)
+low-at (r ∷ t) e (suc i) = low-at t (both (ltb (r .number) 32) (lowNumbers t) e .1) i
+
+pub outside-by : {A : Type 0} (t : List (Row A)) → lowNumbers t ≡ true → (a : A) (v : Verdict) → ByFields v → ByFields (unlessOutside t a v)
+outside-by t e a v n =
+    either-by (ltb (outsideBy t a) (length t)) (Refused (Field (numberAt t (outsideBy t a)))) v (omega arith, omega arith, low-at t e (outsideBy t a)) n
 
 pub course-by : (c : Course) (v : Verdict) → ByFields v → ByFields (courseVerdict c v)
-course-by (course.Uncut p) v n = outside-by pieceTable p v n
-course-by (course.Between e) v n = outside-by endsTable e (unlessOutside lengthTable e v) (outside-by lengthTable e v n)
+course-by (course.Uncut p) v n = outside-by pieceTable refl p v n
+course-by (course.Between e) v n = outside-by endsTable refl e (unlessOutside lengthTable e v) (outside-by lengthTable refl e v n)
 
 pub rest-by : (s : Source) → ByFields (restVerdict s)
 unfolding restVerdict
 rest-by s =
-    outside-by sourceTable s _
-    (either-by (slowSurface s) (Refused SlowSurface) _ (omega arith, omega arith)
-    (either-by (quietTruck s) (Refused QuietTruck) Allowed (omega arith, omega arith) tt))
+    outside-by sourceTable refl s _
+    (either-by (slowSurface s) (Refused SlowSurface) _ (omega arith, omega arith, omega arith)
+    (either-by (quietTruck s) (Refused QuietTruck) Allowed (omega arith, omega arith, omega arith) tt))
 
 pub source-by : (s : Source) → ByFields (sourceVerdict s)
 unfolding sourceVerdict
@@ -110,14 +122,14 @@ source-by s = course-by (s .course) (restVerdict s) (rest-by s)
 
 pub receiver-by : (r : Receiver) → ByFields (receiverVerdict r)
 unfolding receiverVerdict
-receiver-by r = outside-by receiverTable r Allowed tt
+receiver-by r = outside-by receiverTable refl r Allowed tt
 
 pub wall-by : (w : Wall) → ByFields (wallVerdict w)
 unfolding wallVerdict
-wall-by w = outside-by wallTable w Allowed tt
+wall-by w = outside-by wallTable refl w Allowed tt
 
 pub slot-by : (most i : ℕ) (v : Verdict) → ByFields v → ByFields (slotVerdict most i v)
-slot-by most i v n = either-by (leb i most) v (Refused (Field 1)) n (omega arith, omega arith)
+slot-by most i v n = either-by (leb i most) v (Refused (Field 1)) n (omega arith, omega arith, omega arith)
 
 -- so none is for damage
 pub by-apart : (v : Verdict) → ByFields v → v ≢ Refused Damaged

@@ -15,7 +15,7 @@ use Rattle.request.specs.declared.Request.the-variants as request
 use Rattle.request.specs.declared.Told.{Told}
 use Rattle.request.specs.declared.Told.the-variants as told
 use Rattle.request.specs.Record.{readOf, extentOf}
-use Rattle.store.specs.Store.{damaged}
+use Rattle.store.specs.Store.{sourceCount, damaged}
 use Rattle.calls.specs.declared.Answer.{Answer}
 use Rattle.calls.specs.declared.Answer.the-variants as answer
 use Rattle.calls.specs.Calls.{refuse, onStore}
@@ -93,6 +93,8 @@ pub record Rows : Type 0 where
   -- each has the number and the place of the answer that it is made of
   pub same-number : (slot : ℕ) (a : Answer) → outcomeNumber (outcomeOf slot a) ≡ calls.numberIn a
   pub same-place : (slot : ℕ) (a : Answer) → outcomePlace (outcomeOf slot a) ≡ calls.placeIn a
+  -- a place is a field's number or a slot, and neither is beyond the slots of sources
+  pub places : (job store : List ℕ) → outcomePlace (doneTo job store .0 .outcome) < sourceCount
   -- and there is no next record just where the record, on an undamaged store, is refused 2 or 3
   pub stops : (job store : List ℕ) → 0 < length job → damaged store ≡ false
       → (doneTo job store .0 .extent ≡ 0) ↔ Stopping (outcomeNumber (doneTo job store .0 .outcome))

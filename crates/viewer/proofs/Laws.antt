@@ -8,18 +8,26 @@ use mathlib.Core.Option.{Option, none, some}
 use mathlib.Core.List.{List, [], _∷_, _++_, append-nil}
 use native.Mathlib.Omega.{arith}
 use native.Mathlib.Decide.{decLt}
-use borrow.Author.Tests.{ne-eqb, eq-eqb, lt-ltb, le-ltb, lt-leb}
+use borrow.Author.Tests.{ne-eqb, eq-eqb, lt-ltb, le-ltb, lt-leb, leb-true}
 use lib.Dec.{eqb, leb, ltb}
-use lib.ListN.{length, take, drop, set, drop-of-length-le}
+use lib.ListN.{length, getD, take, drop, set, drop-of-length-le}
+use Rattle.layout.proofs.Bounds.{both}
 use lib.Seq.{take-all}
 use Rattle.answer.specs.declared.Refusal.{Refusal}
 use Rattle.answer.specs.declared.Refusal.the-variants.{Damaged, Field}
 use Rattle.road.specs.declared.Source.{Source}
+use Rattle.road.specs.declared.Verdict.{Verdict}
+use Rattle.road.specs.declared.Verdict.the-variants.{Allowed, Refused}
+use Rattle.road.specs.Judge.{slotVerdict}
 use Rattle.index.specs.declared.Index.{Index}
-use Rattle.store.specs.Store.{Book, damaged, bookOf, storeLength}
+use Rattle.index.specs.Index.{ldenOf, lnightOf}
+use Rattle.index.proofs.Laws.{Small, lden-small, lnight-small}
+use Rattle.store.specs.declared.Held.{Held}
+use Rattle.store.specs.Store.{lastReceiver, Book, HeldStands, SoundBook, damaged, bookOf}
+use Rattle.store.proofs.Laws.{sound-book}
 use Rattle.calls.specs.declared.Answer.{Answer}
 use Rattle.calls.specs.declared.Answer.the-variants as answer
-use Rattle.calls.specs.Calls.{Step, refuse, refusalIn, told, onStore, clearStore, askReceiver}
+use Rattle.calls.specs.Calls.{Step, refuse, tell, change, allow, fromUsed, refusalIn, told, onStore, clearStore, askReceiver}
 use Rattle.request.specs.declared.Told.{Told}
 use Rattle.request.specs.declared.Told.the-variants as reading
 use Rattle.request.specs.Record.{readOf, extentOf}
@@ -28,7 +36,7 @@ use Rattle.history.proofs.Theorems.{of-this-book}
 use Rattle.service.specs.declared.Deed.{Deed}
 use Rattle.service.specs.declared.Outcome.{Outcome}
 use Rattle.service.specs.Service.{callOf, slotTold, outcomeOf, outcomeRefusal, answerTold, doneTo}
-use Rattle.viewer.specs.Viewer.{resultOf, lastly, unlessRefused, cleared, goesOn, applied, word, written, tellIn, asked}
+use Rattle.viewer.specs.Viewer.{resultOf, lastly, unlessRefused, cleared, goesOn, applied, word, indicesIn, tellIn, answered, asked}
 
 -- ---- a refusal leaves what was there
 
@@ -116,9 +124,9 @@ module _ (bytes s : List ℕ) where
 -- ---- ask
 
 -- a slot beyond the last is refused by its number, whatever it is
-beyond : (i : ℕ) (b : Book) → 63 < i → askReceiver i b ≡ refuse (Field 1)
+beyond : (i : ℕ) (b : Book) → lastReceiver < i → askReceiver i b ≡ refuse (Field 1)
 unfolding askReceiver
-beyond i b h = rw (lt-leb i 63 h) refl
+beyond i b h = rw (lt-leb i lastReceiver h) refl
 
 same-ask : (i : ℕ) (b : Book) → askReceiver (min i 65535) b ≡ askReceiver i b
 same-ask i b = go (decLt i 65535)
@@ -131,14 +139,63 @@ ask-step : (f g : Book → Step) (s : List ℕ) → f (bookOf s) ≡ g (bookOf s
 unfolding onStore
 ask-step f g s e = ap (λ (k : Step). cond (damaged s) (answer.Refused Damaged, s) (told s k)) e
 
--- the book is asked for slot k, answers a, which is b, and that is told
+-- the book is asked for slot k, and answers a
+pub same-answer : (i k : ℕ) (s : List ℕ) (a : Answer) → k ≡ min i 65535 → (a, s) ≡ onStore (askReceiver k) s → a ≡ answered i s
+same-answer i k s a l e =
+    ap (λ (o : Answer × List ℕ). o .0)
+    (e ∙ ap (λ (n : ℕ). onStore (askReceiver n) s) l ∙ ask-step (askReceiver (min i 65535)) (askReceiver i) s (same-ask i (bookOf s)))
+
+-- which is b, and that is told
 pub of-ask : (i k : ℕ) (s out t : List ℕ) (a b : Answer) (x : ℕ) → k ≡ min i 65535 → (a, s) ≡ onStore (askReceiver k) s → a ≡ b
     → (x, t) ≡ tellIn out b → (x, t) ≡ asked i s out
 unfolding asked
-of-ask i k s out t a b x l e f r =
-    r ∙ ap (tellIn out) (sym f)
-    ∙ ap (λ (o : Answer × List ℕ). tellIn out (o .0))
-    (e ∙ ap (λ (n : ℕ). onStore (askReceiver n) s) l ∙ ask-step (askReceiver (min i 65535)) (askReceiver i) s (same-ask i (bookOf s)))
+of-ask i k s out t a b x l e f r = r ∙ ap (tellIn out) (sym f ∙ same-answer i k s a l e)
+
+-- an ask is refused, or tells two indices, which are small
+abbrev pub Tells : Answer → Type 0
+Tells answer.Done = ⊥
+Tells (answer.Levels den night) = Small den × Small night
+Tells (answer.Refused why) = Unit {0}
+
+abbrev StepTells : Step → Type 0
+StepTells (refuse why) = Unit {0}
+StepTells (tell a) = Tells a
+StepTells (change b) = ⊥
+
+past-verdict : (v : Verdict) (k : Step) → StepTells k → StepTells (allow v k)
+past-verdict Allowed k t = t
+past-verdict (Refused why) k t = tt
+
+held-tells : (x : Held) → HeldStands x → Tells (answer.Levels (ldenOf (x .sums .day) (x .sums .evening) (x .sums .night)) (lnightOf (x .sums .night)))
+held-tells x h =
+    let a = both _ _ (h .1) in
+    let b = both _ _ (a .0) in
+    let day = leb-true _ _ (b .0) in
+    let evening = leb-true _ _ (b .1) in
+    let night = leb-true _ _ (a .1) in
+    (lden-small (x .sums .day) (x .sums .evening) (x .sums .night) day evening night, lnight-small (x .sums .night) night)
+
+seat-tells : (o : Option Held) → ((x : Held) → o ≡ some x → HeldStands x)
+    → StepTells (fromUsed o (λ x. tell (answer.Levels (ldenOf (x .sums .day) (x .sums .evening) (x .sums .night)) (lnightOf (x .sums .night)))))
+seat-tells none h = tt
+seat-tells (some x) h = held-tells x (h x refl)
+
+step-tells : (i : ℕ) (b : Book) → SoundBook b → StepTells (askReceiver i b)
+unfolding askReceiver
+step-tells i b sound = past-verdict (slotVerdict lastReceiver i Allowed) _ (seat-tells (getD (b .receivers) i none) (sound .receivers-stand i))
+
+told-tells : (s : List ℕ) (k : Step) → StepTells k → Tells (told s k .0)
+told-tells s (refuse why) t = t
+told-tells s (tell a) t = t
+told-tells s (change b) t = absurd t
+
+pub ask-tells : (i : ℕ) (s : List ℕ) → Tells (answered i s)
+unfolding onStore
+ask-tells i s = go (damaged s) refl
+  where
+    go : (t : Bool) → damaged s ≡ t → Tells (cond {A = Answer × List ℕ} t (answer.Refused Damaged, s) (told s (askReceiver i (bookOf s))) .0)
+    go true e = tt
+    go false e = told-tells s (askReceiver i (bookOf s)) (step-tells i (bookOf s) (sound-book s e))
 
 -- ---- bytes
 
@@ -155,12 +212,15 @@ four (p ∷ q ∷ r ∷ []) a b c d e = absurd (omega arith)
 four (p ∷ q ∷ r ∷ s ∷ x ∷ l) a b c d e = absurd (omega arith)
 
 module _ (den night : Index) (out : List ℕ) where
-  pub not-written : (x : ℕ) → length out ≢ 4 → x ≡ resultOf (lastly true none) → (x, out) ≡ written den night out
+  pub not-written : (x : ℕ) → length out ≢ 4 → x ≡ resultOf (lastly true none) → (x, out) ≡ tellIn out (answer.Levels den night)
   not-written x h e = rw (ne-eqb (length out) 4 h) (ap (λ (n : ℕ). (n, out)) e)
 
+  pub all-told : length out ≡ 4 → (resultOf none, indicesIn (answer.Levels den night)) ≡ tellIn out (answer.Levels den night)
+  all-told h = rw (eq-eqb (length out) 4 h) refl
+
   pub all-written : (m n x : ℕ) → length out ≡ 4 → m ≡ word den → n ≡ word night → x ≡ resultOf (lastly false none)
-      → (x, set (set (set (set out 0 (m % 256)) 1 (m / 256 % 256)) 2 (n % 256)) 3 (n / 256 % 256)) ≡ written den night out
+      → (x, set (set (set (set out 0 (m % 256)) 1 (m / 256 % 256)) 2 (n % 256)) 3 (n / 256 % 256)) ≡ tellIn out (answer.Levels den night)
   all-written m n x h e f r =
-      rw (eq-eqb (length out) 4 h)
-      (ap₂ (λ (k : ℕ) (s : List ℕ). (k, s)) r
-      (four out _ _ _ _ h ∙ ap₂ (λ (a b : ℕ). a % 256 ∷ a / 256 % 256 ∷ b % 256 ∷ b / 256 % 256 ∷ []) e f))
+      ap₂ (λ (k : ℕ) (s : List ℕ). (k, s)) r
+      (four out _ _ _ _ h ∙ ap₂ (λ (a b : ℕ). a % 256 ∷ a / 256 % 256 ∷ b % 256 ∷ b / 256 % 256 ∷ []) e f)
+      ∙ all-told h

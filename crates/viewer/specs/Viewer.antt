@@ -1,10 +1,12 @@
 -- The book as a program in C calls it (METHOD 10): what each call returns, and the store or the output as it then is, for any bytes lent.
 -- Book and reader say what is refused; here that comes to one number, and 2 is last of all.
-use Prim.Native.Nat.{ℕ, _+_, _*_, _/_, _%_}
+use Prim.Native.Nat.{ℕ, suc, _+_, _*_, _/_, _%_, _<_}
+use mathlib.Core.Path.{_≡_}
+use mathlib.Core.Logic.{_⊎_}
 use mathlib.Core.Bool.{Bool, true, false, not}
 use mathlib.Core.Option.{Option, none, some}
 use mathlib.Core.List.{List, [], _∷_, _++_}
-use lib.ListN.{length}
+use lib.ListN.{length, getD}
 use lib.Dec.{eqb, ltb}
 use Rattle.answer.specs.declared.Refusal.{Refusal}
 use Rattle.answer.specs.declared.Refusal.the-variants.{CutShort}
@@ -64,15 +66,52 @@ abbrev pub word : Index → ℕ
 word Quiet = 65535
 word (Tenths n) = n
 
--- L_DEN, then L_Night, into an output of four bytes
-abbrev pub written : Index → Index → List ℕ → ℕ × List ℕ
-written den night out = unlessRefused (lastly (not (eqb (length out) 4)) none) out (lowFirst (word den) ++ lowFirst (word night))
+-- L_DEN, then L_Night; no ask is answered without them
+abbrev pub indicesIn : Answer → List ℕ
+indicesIn (answer.Levels den night) = lowFirst (word den) ++ lowFirst (word night)
+indicesIn answer.Done = []
+indicesIn (answer.Refused why) = []
 
--- an answer of the book told in that way; no ask is answered without indices
+-- what the book answers, told in an output of four bytes
+abbrev pub unasked : List ℕ → Answer → Option Refusal
+unasked out a = lastly (not (eqb (length out) 4)) (refusalIn a)
+
 abbrev pub tellIn : List ℕ → Answer → ℕ × List ℕ
-tellIn out (answer.Levels den night) = written den night out
-tellIn out (answer.Refused why) = unlessRefused (some why) out out
-tellIn out answer.Done = (resultOf none, out)
+tellIn out a = unlessRefused (unasked out a) out (indicesIn a)
+
+abbrev pub answered : ℕ → List ℕ → Answer
+answered slot store = onStore (askReceiver slot) store .0
 
 unfoldable pub asked : ℕ → List ℕ → List ℕ → ℕ × List ℕ
-asked slot store out = tellIn out (onStore (askReceiver slot) store .0)
+asked slot store out = tellIn out (answered slot store)
+
+-- ---- what a caller makes of it
+
+-- the number and the place out of a result
+abbrev pub numberFrom : ℕ → ℕ
+numberFrom result = result / 1024
+
+abbrev pub placeFrom : ℕ → ℕ
+placeFrom result = result % 1024
+
+-- two bytes as a number
+abbrev pub wordAt : ℕ → List ℕ → ℕ
+wordAt i out = getD out i 0 + 256 * getD out (suc i) 0
+
+-- they are those of the refusal
+abbrev pub TellsApart : ℕ → Option Refusal → Type 0
+TellsApart result why = (numberFrom result ≡ numberBy why) × (placeFrom result ≡ placeBy why)
+
+-- two indices are told: each by the number at its place, and a level by another number than quiet
+pub record TellsLevels (out : List ℕ) (den night : Index) : Type 0 where
+  pub first : wordAt 0 out ≡ word den
+  pub second : wordAt 2 out ≡ word night
+  pub not-quiet : (n : ℕ) → (den ≡ Tenths n) ⊎ (night ≡ Tenths n) → n < word Quiet
+
+-- for any bytes at all
+pub record ReadBack : Type 0 where
+  pub of-clear : (store : List ℕ) → TellsApart (cleared store .0) (refusalIn (clearStore store .0))
+  pub of-apply : (bytes store : List ℕ) → TellsApart (applied bytes store .0) (barred bytes store)
+  pub of-ask : (slot : ℕ) (store out : List ℕ) → TellsApart (asked slot store out .0) (unasked out (answered slot store))
+  pub levels : (slot : ℕ) (store out : List ℕ) (den night : Index) → length out ≡ 4 → answered slot store ≡ answer.Levels den night
+      → TellsLevels (asked slot store out .1) den night

@@ -5,12 +5,12 @@ use book::Answer;
 use clerk::Outcome;
 use index::Index;
 ghost use mathlib.Core.Path.{_≡_};
-ghost use mathlib.Core.Bool.{true, false};
 ghost use mathlib.Core.Option.{none, some};
 ghost use Prim.Native.Nat.{min};
 ghost use Rattle.service.specs.Service.{outcomeRefusal, doneTo};
+ghost use Rattle.calls.specs.declared.Answer.the-variants.{Levels};
 ghost use Rattle.calls.specs.Calls.{refusalIn};
-ghost use Rattle.viewer.specs.Viewer.{resultOf, lastly, cleared, applied, asked, word, written};
+ghost use Rattle.viewer.specs.Viewer.{resultOf, lastly, cleared, applied, asked, word, tellIn};
 
 // What quiet is as a number, and how many bytes an output has.
 const QUIET: u32 = 65535;
@@ -116,7 +116,7 @@ fn word_of(level: Index) -> u32
 
 // Writes two indices into an output of four bytes.
 fn write_indices(out: &mut [u8], den: Index, night: Index) -> u32
-    ensures { λ r. ⌜ (r, now (out .exit)) ≡ written den night (now (out .entry)) ⌝ }
+    ensures { λ r. ⌜ (r, now (out .exit)) ≡ tellIn (now (out .entry)) (Levels den night) ⌝ }
 {
     if out.len() != OUTPUT {
         return at_last(true);

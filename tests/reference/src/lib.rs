@@ -31,5 +31,7 @@ pub mod sheets;
 pub mod store;
 pub mod stores;
 pub mod town;
+pub mod viewer;
+pub mod views;
 pub mod wall;
 pub mod writing;

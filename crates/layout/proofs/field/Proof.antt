@@ -1,14 +1,33 @@
 -- `field` meets its contract: the bits above the field fall out at the top of the word. Assumes nothing.
-use Prim.Native.Nat.{_+_, _*_, _-_, _/_, _%_, _≤_}
+use Prim.Native.Nat.{_+_, _*_, _-_, _/_, _%_}
 use native.Mathlib.Omega.{arith}
 use borrow.Author.Needs.{needs}
 use denote.Ref.{now}
-use mathlib.Core.Path.{_≡_}
-use lib.ListN.{length}
 use Rattle.layout.specs.Layout.{Bytes}
-use Rattle.layout.proofs.Numbers.{window}
+use Rattle.layout.proofs.Numbers.{window-at}
 use Rattle.layout.proofs.field.Statement.{statement}
 use Rattle.layout.proofs.field.Tie as tie
+
+add-if1 : tie.Need-add-if1
+add-if1 c = search needs
+
+eight-requires : tie.Need-eight-requires
+eight-requires c κs = search needs
+
+shl-result : tie.Need-shl-result
+shl-result c = search needs
+
+sub-result : tie.Need-sub-result
+sub-result c = search needs
+
+shr-result : tie.Need-shr-result
+shr-result c = search needs
+
+returns : tie.Need-returns
+returns c =
+    let a = c .before .before .before .args in
+    let bytes : Bytes (now (a .s)) = λ i. c .before .before .shared-slice-known .given i .fits in
+    rw (c .eight .ensures) (window-at (now (a .s)) (a .at) (a .n) 8 (a .at % 8) bytes (omega arith) (omega arith) (omega arith))
 
 add-k : tie.Need-add-k
 add-k c = search needs
@@ -28,29 +47,39 @@ sub-up c = search needs
 add-up : tie.Need-add-up
 add-up c = search needs
 
-shl-result : tie.Need-shl-result
-shl-result c = search needs
+shl-result-2 : tie.Need-shl-result-2
+shl-result-2 c = search needs
 
-sub-result : tie.Need-sub-result
-sub-result c = search needs
+sub-result-2 : tie.Need-sub-result-2
+sub-result-2 c = search needs
 
-shr-result : tie.Need-shr-result
-shr-result c = search needs
+shr-result-2 : tie.Need-shr-result-2
+shr-result-2 c = search needs
 
-returns : tie.Need-returns
-returns c =
-    let a = c .before .before .args in
-    let r = a .at % 8 in
-    let k = (r + a .n + 7) / 8 in
-    let d = 8 * k - (r + a .n) in
-    let bytes : Bytes (now (a .s)) = λ i. c .before .shared-slice-known .given i .fits in
-    let inside : a .at / 8 + k ≤ length (now (a .s)) = omega arith in
-    let from : 8 * (a .at / 8) ≤ a .at = omega arith in
-    let to : a .at + a .n + d ≡ 8 * (a .at / 8 + k) = omega arith in
-    let word : 64 - 8 * k + r + d + a .n ≡ 64 = omega arith in
-    rw (c .number .ensures, window (a .at) d)
+returns-2 : tie.Need-returns-2
+returns-2 c =
+    let a = c .before .before .before .args in
+    let k = (a .at % 8 + a .n + 7) / 8 in
+    let bytes : Bytes (now (a .s)) = λ i. c .before .before .shared-slice-known .given i .fits in
+    rw (c .number .ensures) (window-at (now (a .s)) (a .at) (a .n) k (64 - 8 * k + a .at % 8) bytes (omega arith) (omega arith) (omega arith))
 
 pub field-spec : {M : Type 1} → statement M
 field-spec =
     tie.close
-    (tie.spec add-k add-k-2 number-requires mul-up sub-up add-up shl-result sub-result shr-result returns)
+    (tie.spec
+    add-if1
+    eight-requires
+    shl-result
+    sub-result
+    shr-result
+    returns
+    add-k
+    add-k-2
+    number-requires
+    mul-up
+    sub-up
+    add-up
+    shl-result-2
+    sub-result-2
+    shr-result-2
+    returns-2)

@@ -1,10 +1,8 @@
 -- `ngoretaiwhe_ask` asks the book, and writes what it tells or nothing. Assumes nothing.
-use mathlib.Core.Path.{_≡_, refl, ap, _∙_}
-use mathlib.Core.List.{List}
+use mathlib.Core.Path.{sym, ap, subst, _∙_}
 use Prim.Native.Nat.{ℕ}
 use borrow.Author.Needs.{needs}
-use Rattle.calls.specs.Calls.{askReceiver, onStore}
-use Rattle.viewer.proofs.Laws.{of-ask}
+use Rattle.viewer.proofs.Laws.{of-ask, same-answer, Tells, ask-tells}
 use Rattle.viewer.proofs.ngoretaiwhe_ask.Statement.{statement}
 use Rattle.viewer.proofs.ngoretaiwhe_ask.Tie as tie
 
@@ -41,7 +39,9 @@ returns c =
 returns-2 : tie.Need-returns-2
 returns-2 c =
     let a = c .before .before in
-    of-ask _ _ _ _ _ _ _ _ (a .before .slot-of .ensures) (a .ask .ensures) (c .enum-told .given .1) refl
+    let start = a .before .before .before .before in
+    let e = same-answer (start .args .slot) _ (start .args .store .now) _ (a .before .slot-of .ensures) (a .ask .ensures) in
+    absurd (subst Tells (sym e ∙ c .enum-told .given .1) (ask-tells (start .args .slot) (start .args .store .now)))
 
 returns-3 : tie.Need-returns-3
 returns-3 c =
