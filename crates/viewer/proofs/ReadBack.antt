@@ -37,7 +37,8 @@ apart : (o : Option Refusal) (s t : List ℕ) → placeBy o < 1024 → TellsApar
 apart o s t h = subst (λ (r : ℕ). TellsApart r o) (sym (result-is o s t)) (unpacked o h)
 
 last-place : (b : Bool) (o : Option Refusal) → placeBy o < 512 → placeBy (lastly b o) < 1024
-last-place b (some why) h = omega (arith, h)
+last-place true (some why) h = omega (arith, h)
+last-place false (some why) h = omega (arith, h)
 last-place true none h = omega arith
 last-place false none h = omega arith
 

@@ -1,11 +1,14 @@
 // Writes the six jobs of the benchmark into a folder: a town, a town that is edited in two calls and
 // in one, one that is asked, one of long roads and one with walls that are edited. Every record in them
-// is taken.
+// is taken. And two stores with something in every slot, to be asked.
 
+use reference::book::encode;
 use reference::chance::Chance;
 use reference::course::Course;
 use reference::cuts::{span, within};
-use reference::fields::{HEIGHT, LANES, LENGTH, MINUS, RECEIVERS, SOURCES, SURFACE, WALL_HEIGHT};
+use reference::fields::{
+    HEIGHT, LANES, LENGTH, MINUS, RECEIVERS, SOURCES, SURFACE, WALLS, WALL_HEIGHT,
+};
 use reference::listing::list;
 use reference::record::Record;
 use reference::road::{Receiver, Source, Traffic};
@@ -21,12 +24,11 @@ const CUT_EDITS: usize = 2_000;
 const WALLED_EDITS: usize = 2_000;
 const WALL_EVERY: usize = 10;
 
-/// Walls, and the steps of the line on which they stand from one to the next: one to the north for
-/// four to the east, so that all are just on it, and some between them left open.
-const WALLS: i64 = 16;
-const WALL_STEP: i64 = 2187;
-const WALL_LENGTH: i64 = 2000;
-const _: () = assert!(4 * WALLS * WALL_STEP <= WIDE);
+/// The walls of the last job, and the steps of the line on which walls stand: one to the north for four
+/// to the east, so that all are just on it. The last of so many steps from one to the next are left open.
+const FEW_WALLS: i64 = 16;
+const LINE: i64 = WIDE / 4;
+const OPEN: i64 = 187;
 
 fn main() -> ExitCode {
     let Some(folder) = std::env::args().nth(1) else {
@@ -49,7 +51,15 @@ fn write_all(folder: &Path) -> std::io::Result<()> {
     std::fs::write(folder.join("set.job"), in_one)?;
     std::fs::write(folder.join("ask.job"), asked(&mut Chance::new(3)))?;
     std::fs::write(folder.join("cut.job"), cut(&mut Chance::new(4)))?;
-    std::fs::write(folder.join("walls.job"), walled(&mut Chance::new(5)))
+    std::fs::write(folder.join("walls.job"), walled(&mut Chance::new(5)))?;
+    std::fs::write(
+        folder.join("uncut.store"),
+        full(&mut Chance::new(6), some_road),
+    )?;
+    std::fs::write(
+        folder.join("ends.store"),
+        full(&mut Chance::new(7), long_road),
+    )
 }
 
 fn spot(chance: &mut Chance) -> (i64, i64) {
@@ -87,6 +97,12 @@ fn road(chance: &mut Chance, x: i64, y: i64) -> Source {
     }
 }
 
+/// A road anywhere in the town.
+fn some_road(chance: &mut Chance) -> Source {
+    let (x, y) = spot(chance);
+    road(chance, x, y)
+}
+
 /// A road of 50 to 1000 m in any direction, both ends of which are in the town.
 fn long_road(chance: &mut Chance) -> Source {
     let (x, y) = spot(chance);
@@ -121,10 +137,7 @@ fn place_some(draft: &mut Draft, slot: i64, mut road: impl FnMut() -> Source) {
 fn town(chance: &mut Chance) -> Draft {
     let mut draft = receivers(chance);
     for slot in 0..SOURCES as i64 {
-        place_some(&mut draft, slot, || {
-            let (x, y) = spot(chance);
-            road(chance, x, y)
-        });
+        place_some(&mut draft, slot, || some_road(chance));
     }
     draft
 }
@@ -181,20 +194,37 @@ fn cut(chance: &mut Chance) -> Vec<u8> {
     draft.bytes
 }
 
-/// A wall of any height in its place on the line. No way meets two of them: they are all on one
-/// line, and do not touch.
-fn wall(chance: &mut Chance, number: i64) -> Wall {
+/// A wall of any height in its place on the line, one of so many. No way meets two of them: they are
+/// all on one line, and do not touch.
+fn wall(chance: &mut Chance, number: i64, count: i64) -> Wall {
     let at = |steps: i64| (CORNER + 4 * steps, CORNER + WIDE * 3 / 8 + steps);
-    let first = number * WALL_STEP;
-    let ((x1, y1), (x2, y2)) = (at(first), at(first + WALL_LENGTH));
+    let step = LINE / count;
+    let ((x1, y1), (x2, y2)) = (at(number * step), at((number + 1) * step - OPEN));
     Wall::new(x1, y1, x2, y2, chance.between(300, WALL_HEIGHT.most()))
+}
+
+/// So many walls on the line.
+fn place_walls(draft: &mut Draft, chance: &mut Chance, count: i64) {
+    for slot in 0..count {
+        let wall = wall(chance, slot, count);
+        assert!(draft.put_if_taken(Record::PlaceWall(slot, wall)));
+    }
+}
+
+/// The stored state of receivers, walls and such roads in every slot.
+fn full(chance: &mut Chance, road: fn(&mut Chance) -> Source) -> Vec<u8> {
+    let mut draft = receivers(chance);
+    place_walls(&mut draft, chance, WALLS as i64);
+    for slot in 0..SOURCES as i64 {
+        place_some(&mut draft, slot, || road(chance));
+    }
+    encode(&draft.book)
 }
 
 /// An uncut road in every other slot, a long one in the rest.
 fn any_road(chance: &mut Chance, slot: i64) -> Source {
     if slot % 2 == 0 {
-        let (x, y) = spot(chance);
-        road(chance, x, y)
+        some_road(chance)
     } else {
         long_road(chance)
     }
@@ -205,9 +235,7 @@ fn any_road(chance: &mut Chance, slot: i64) -> Source {
 /// wall withdrawn and placed again with another height.
 fn walled(chance: &mut Chance) -> Vec<u8> {
     let mut draft = receivers(chance);
-    for slot in 0..WALLS {
-        assert!(draft.put_if_taken(Record::PlaceWall(slot, wall(chance, slot))));
-    }
+    place_walls(&mut draft, chance, FEW_WALLS);
     for slot in 0..SOURCES as i64 {
         place_some(&mut draft, slot, || any_road(chance, slot));
     }
@@ -217,9 +245,10 @@ fn walled(chance: &mut Chance) -> Vec<u8> {
         place_some(&mut draft, slot, || any_road(chance, slot));
         ask_any(&mut draft, chance);
         if edit % WALL_EVERY == 0 {
-            let slot = chance.between(0, WALLS - 1);
+            let slot = chance.between(0, FEW_WALLS - 1);
             assert!(draft.put_if_taken(Record::WithdrawWall(slot)));
-            assert!(draft.put_if_taken(Record::PlaceWall(slot, wall(chance, slot))));
+            let higher = wall(chance, slot, FEW_WALLS);
+            assert!(draft.put_if_taken(Record::PlaceWall(slot, higher)));
         }
     }
     draft.bytes
