@@ -46,7 +46,7 @@ fn values(job: &[u8], kind: usize, v: &mut [u64])
     ensures { λ _. ⌜ now (v .exit) ≡ fields (layoutOf kind) (now (job .entry)) ⌝ }
 {
     let widths = kinds::widths();
-    layout::take_fields(job, kinds::layout_of(&widths, kind), v);
+    layout::take_fields(job, kinds::layout_of(&widths, kind), v, false);
 }
 
 // A reading that is refused.

@@ -1,7 +1,7 @@
 -- The laws of records: what is written and read again, over any layout. Assumes nothing.
 use Prim.Native.Nat.{ℕ, zero, suc, _+_, _-_, _*_, _/_, _%_, _^_, _≤_, _<_}
 use mathlib.Core.Path.{_≡_, refl, sym, ap, ap₂, _∙_, subst}
-use mathlib.Core.Bool.{true, _&&_}
+use mathlib.Core.Bool.{true, false, _&&_}
 use mathlib.Core.List.{List, [], _∷_, _++_, append-nil}
 use native.Mathlib.Nat.{mod-eq-of-lt, le-refl, not-suc-le-zero, le-of-suc-le-suc}
 use native.Mathlib.Numerals.{add-one}
@@ -158,3 +158,7 @@ field-bits ws s i h l b k =
     let e : sum (take i ws) + getD ws i 0 + sum (drop (i + 1) ws) ≡ 8 * size ws =
     rw add-one (omega (arith, sized-whole ws h, ap sum (split-at ws i 0 k), sum-append (take i ws) (getD ws i 0 ∷ drop (suc i) ws))) in
     nth ws (num (take (size ws) s)) i k ∙ sym (bits-take s (sum (take i ws)) (getD ws i 0) (sum (drop (i + 1) ws)) (size ws) b l e)
+
+-- where no bytes are known to be to spare, a reader asks for none
+pub none-spare : {P : Type 0} → false ≡ true → P
+none-spare e = absurd (let z : _≡_ {A = ℕ} 0 1 = cc in omega arith)

@@ -3,7 +3,7 @@
 ghost use mathlib.Core.Path.{_≡_};
 ghost use mathlib.Core.Bool.{true};
 ghost use mathlib.Core.List.{_++_};
-ghost use Prim.Native.Nat.{_+_, _*_, _^_, _%_, _≤_, _<_};
+ghost use Prim.Native.Nat.{_+_, _*_, _/_, _^_, _%_, _≤_, _<_};
 ghost use lib.ListN.{length, take, drop};
 ghost use Rattle.layout.specs.Layout.{num, bytesOf, bits, size, sized, fields, packed, Within};
 ghost use Rattle.layout.specs.Bounds.{firstOutside};
@@ -59,33 +59,40 @@ fn eight(s: &[u8], at: usize) -> u64
     high * 4294967296 + low
 }
 
-// The n bits of s from bit at on. Where eight bytes are there, they are read at once: most fields of a store and of a job.
+// The n bits of s from bit at on.
 pub fn field(s: &[u8], at: usize, n: usize) -> u64
     requires { ⌜ (1 ≤ n) × (at % 8 + n ≤ 64) × (at + n ≤ 8 * length (now s)) ⌝ }
     ensures { λ r. ⌜ r ≡ bits at n (now (s .entry)) ⌝ }
 {
     let r = at % 8;
-    let from = at / 8;
-    if from + 8 <= s.len() {
-        return (eight(s, from) << r) >> (64 - n);
-    }
     let k = (r + n + 7) / 8;
-    let x = number(s, from, k);
+    let x = number(s, at / 8, k);
     let up = 64 - 8 * k + r;
     (x << up) >> (64 - n)
 }
 
-// Reads the fields of the record at the front of s into vs.
-pub fn take_fields(s: &[u8], ws: &[u8], vs: &mut [u64])
+// The same, out of eight bytes read at once where there are bytes to spare.
+fn one_field(s: &[u8], at: usize, n: usize, spare: bool) -> u64
+    requires { ⌜ (1 ≤ n) × (at % 8 + n ≤ 64) × (at + n ≤ 8 * length (now s)) × (spare ≡ true → at / 8 + 8 ≤ length (now s)) ⌝ }
+    ensures { λ r. ⌜ r ≡ bits at n (now (s .entry)) ⌝ }
+{
+    if spare {
+        return (eight(s, at / 8) << (at % 8)) >> (64 - n);
+    }
+    field(s, at, n)
+}
+
+// Reads the fields of the record at the front of s into vs: quicker where seven bytes to spare are known to follow the record.
+pub fn take_fields(s: &[u8], ws: &[u8], vs: &mut [u64], spare: bool)
     requires { ⌜ sized (now ws) ≡ true ⌝ }
-    requires { ⌜ (size (now ws) ≤ length (now s)) × (length (now vs) ≡ length (now ws)) ⌝ }
+    requires { ⌜ (size (now ws) ≤ length (now s)) × (length (now vs) ≡ length (now ws)) × (spare ≡ true → size (now ws) + 7 ≤ length (now s)) ⌝ }
     ensures { λ _. ⌜ now (vs .exit) ≡ fields (now (ws .entry)) (now (s .entry)) ⌝ }
 {
     let mut at = 0;
     let mut i = 0;
     while i < ws.len() {
         let w = count(ws[i]);
-        let v = field(s, at, w);
+        let v = one_field(s, at, w, spare);
         vs[i] = v;
         at += w;
         i += 1;

@@ -49,7 +49,7 @@ fn numbers(store: &[u8], j: usize) -> [u64; NUMBERS]
 {
     let ws = WIDTHS;
     let mut v = [0u64; NUMBERS];
-    slot::get(store, SPLIT + j * RECEIVER_SIZE, &ws, &mut v);
+    slot::get(store, SPLIT + j * RECEIVER_SIZE, &ws, &mut v, false);
     v
 }
 

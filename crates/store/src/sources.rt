@@ -68,7 +68,7 @@ fn numbers(store: &[u8], i: usize) -> [u64; NUMBERS]
 {
     let ws = WIDTHS;
     let mut v = [0u64; NUMBERS];
-    slot::get(store, i * SOURCE_SIZE, &ws, &mut v);
+    slot::get(store, i * SOURCE_SIZE, &ws, &mut v, true);
     v
 }
 

@@ -40,7 +40,7 @@ fn numbers(store: &[u8], k: usize) -> [u64; NUMBERS]
 {
     let ws = WIDTHS;
     let mut v = [0u64; NUMBERS];
-    slot::get(store, WALLS_BEGIN + k * WALL_SIZE, &ws, &mut v);
+    slot::get(store, WALLS_BEGIN + k * WALL_SIZE, &ws, &mut v, false);
     v
 }
 

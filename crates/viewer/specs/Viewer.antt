@@ -72,10 +72,11 @@ indicesIn (answer.Levels den night) = lowFirst (word den) ++ lowFirst (word nigh
 indicesIn answer.Done = []
 indicesIn (answer.Refused why) = []
 
--- what the book answers, told in an output of four bytes
+-- what is refused of an ask: what the book refuses, and then an output that has not four bytes
 abbrev pub unasked : List ℕ → Answer → Option Refusal
 unasked out a = lastly (not (eqb (length out) 4)) (refusalIn a)
 
+-- an answer of the book, told in the output
 abbrev pub tellIn : List ℕ → Answer → ℕ × List ℕ
 tellIn out a = unlessRefused (unasked out a) out (indicesIn a)
 
@@ -98,7 +99,7 @@ placeFrom result = result % 1024
 abbrev pub wordAt : ℕ → List ℕ → ℕ
 wordAt i out = getD out i 0 + 256 * getD out (suc i) 0
 
--- they are those of the refusal
+-- number and place out of a result are those of the refusal
 abbrev pub TellsApart : ℕ → Option Refusal → Type 0
 TellsApart result why = (numberFrom result ≡ numberBy why) × (placeFrom result ≡ placeBy why)
 

@@ -7,6 +7,7 @@ use native.Mathlib.Omega.{arith}
 use denote.Ref.{now}
 use lib.ListN.{length}
 use Rattle.layout.specs.Layout.{size, sized, fields}
+use Rattle.layout.proofs.Laws.{none-spare}
 use Rattle.request.specs.Kinds.{layoutOf}
 use Rattle.request.proofs.Rows.{row-sized}
 use borrow.Author.Needs.{needs}
@@ -27,7 +28,7 @@ take-fields-requires c κs =
     let a = c .before .before .before .before .before .before in
     let f = c .before .layout-of .ensures in
     let z : size (now (c .before .layout-of .result)) ≡ size (layoutOf (a .args .kind)) = ap size f in
-    (ap sized f ∙ row-sized (a .args .kind), (omega arith, a .pre .1 ∙ sym (ap length f)))
+    (ap sized f ∙ row-sized (a .args .kind), (omega arith, a .pre .1 ∙ sym (ap length f), none-spare))
 
 same-length : tie.Need-same-length
 same-length c = search needs

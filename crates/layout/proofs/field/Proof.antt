@@ -8,27 +8,6 @@ use Rattle.layout.proofs.Numbers.{window-at}
 use Rattle.layout.proofs.field.Statement.{statement}
 use Rattle.layout.proofs.field.Tie as tie
 
-add-if1 : tie.Need-add-if1
-add-if1 c = search needs
-
-eight-requires : tie.Need-eight-requires
-eight-requires c κs = search needs
-
-shl-result : tie.Need-shl-result
-shl-result c = search needs
-
-sub-result : tie.Need-sub-result
-sub-result c = search needs
-
-shr-result : tie.Need-shr-result
-shr-result c = search needs
-
-returns : tie.Need-returns
-returns c =
-    let a = c .before .before .before .args in
-    let bytes : Bytes (now (a .s)) = λ i. c .before .before .shared-slice-known .given i .fits in
-    rw (c .eight .ensures) (window-at (now (a .s)) (a .at) (a .n) 8 (a .at % 8) bytes (omega arith) (omega arith) (omega arith))
-
 add-k : tie.Need-add-k
 add-k c = search needs
 
@@ -47,39 +26,23 @@ sub-up c = search needs
 add-up : tie.Need-add-up
 add-up c = search needs
 
-shl-result-2 : tie.Need-shl-result-2
-shl-result-2 c = search needs
+shl-result : tie.Need-shl-result
+shl-result c = search needs
 
-sub-result-2 : tie.Need-sub-result-2
-sub-result-2 c = search needs
+sub-result : tie.Need-sub-result
+sub-result c = search needs
 
-shr-result-2 : tie.Need-shr-result-2
-shr-result-2 c = search needs
+shr-result : tie.Need-shr-result
+shr-result c = search needs
 
-returns-2 : tie.Need-returns-2
-returns-2 c =
-    let a = c .before .before .before .args in
+returns : tie.Need-returns
+returns c =
+    let a = c .before .before .args in
     let k = (a .at % 8 + a .n + 7) / 8 in
-    let bytes : Bytes (now (a .s)) = λ i. c .before .before .shared-slice-known .given i .fits in
+    let bytes : Bytes (now (a .s)) = λ i. c .before .shared-slice-known .given i .fits in
     rw (c .number .ensures) (window-at (now (a .s)) (a .at) (a .n) k (64 - 8 * k + a .at % 8) bytes (omega arith) (omega arith) (omega arith))
 
 pub field-spec : {M : Type 1} → statement M
 field-spec =
     tie.close
-    (tie.spec
-    add-if1
-    eight-requires
-    shl-result
-    sub-result
-    shr-result
-    returns
-    add-k
-    add-k-2
-    number-requires
-    mul-up
-    sub-up
-    add-up
-    shl-result-2
-    sub-result-2
-    shr-result-2
-    returns-2)
+    (tie.spec add-k add-k-2 number-requires mul-up sub-up add-up shl-result sub-result shr-result returns)

@@ -1,6 +1,7 @@
 -- `take_fields` meets its contract: each turn of its loop is a step of `Taken`. Assumes nothing.
-use Prim.Native.Nat.{_≤_, _<_, _+_, _*_, _-_, _%_}
+use Prim.Native.Nat.{_≤_, _<_, _+_, _*_, _-_, _/_, _%_}
 use mathlib.Core.Path.{_≡_, refl}
+use mathlib.Core.Bool.{true}
 use native.Mathlib.Omega.{arith}
 use borrow.Author.Needs.{needs}
 use denote.Ref.{now}
@@ -11,10 +12,10 @@ use Rattle.layout.proofs.take_fields.Statement.{statement}
 use Rattle.layout.proofs.take_fields.Tie as tie
 
 abbrev Inv-loop : tie.InvT-loop
-Inv-loop s ws vs₀ at₀ i₀ vs at i = (i ≤ length ws) × (length vs ≡ length vs₀) × Taken s ws vs at i
+Inv-loop s ws vs₀ spare at₀ i₀ vs at i = (i ≤ length ws) × (length vs ≡ length vs₀) × Taken s ws vs at i
 
 abbrev μ-loop : tie.MeasureT-loop
-μ-loop s ws vs₀ at₀ i₀ vs at i = length ws - i
+μ-loop s ws vs₀ spare at₀ i₀ vs at i = length ws - i
 
 -- the next field has room
 turn : (c : tie.After-count Inv-loop μ-loop)
@@ -22,6 +23,8 @@ turn : (c : tie.After-count Inv-loop μ-loop)
     × (c .before .before .before .loop .at % 8 + c .count .result ≤ 64)
     × (c .before .before .before .loop .at + c .count .result ≤ 8 * length (now (c .before .before .before .before .before .before .before .args .s)))
     × (c .before .before .before .loop .at + c .count .result ≤ 8000)
+    × (c .before .before .before .before .before .before .before .args .spare ≡ true
+    → c .before .before .before .loop .at / 8 + 8 ≤ length (now (c .before .before .before .before .before .before .before .args .s)))
 turn c =
     let l = c .before .before .before in
     let z = l .before .before .before .before in
@@ -30,7 +33,7 @@ turn c =
     let r = taken-room (l .loop .inv .2) h (c .count .ensures) in
     let m = sized-few ws (z .pre .0) in
     let n = sized-whole ws (z .pre .0) in
-    (r .0, r .1, omega arith, omega arith)
+    (r .0, r .1, omega arith, omega arith, λ e. let k = z .pre .1 .2 e in omega (arith, k))
 
 loop-holds : tie.Need-loop-holds Inv-loop μ-loop
 loop-holds c = (omega arith, refl, taken-none (omega arith) (c .before .before .before .pre .0))
@@ -41,8 +44,8 @@ shared-slice-read-count c = search needs
 count-requires : tie.Need-count-requires Inv-loop μ-loop
 count-requires c κs = search needs
 
-field-requires : tie.Need-field-requires Inv-loop μ-loop
-field-requires c κs = let t = turn c in omega arith
+one-field-requires : tie.Need-one-field-requires Inv-loop μ-loop
+one-field-requires c κs = let t = turn c in (t .0, t .1, t .2, t .4)
 
 mul-vs : tie.Need-mul-vs Inv-loop μ-loop
 mul-vs c = search needs
@@ -66,7 +69,7 @@ loop-again c =
       omega arith,
       simp length-set (l .loop .inv .1),
       taken-more (l .loop .inv .2) (z .pre .0) (z .pre .1 .0) (λ i. l .before .before .before .shared-slice-known .given i .fits)
-          (omega arith) (omega arith) (c .before .count .ensures) (c .field .ensures),
+          (omega arith) (omega arith) (c .before .count .ensures) (c .one-field .ensures),
     )
 
 same-length : tie.Need-same-length Inv-loop μ-loop
@@ -84,7 +87,7 @@ take-fields-spec =
     loop-holds
     shared-slice-read-count
     count-requires
-    field-requires
+    one-field-requires
     mul-vs
     slice-write-vs
     add-at

@@ -21,7 +21,9 @@ part-take-fields-end : tie.Need-part-take-fields-end
 part-take-fields-end c = search needs
 
 take-fields-requires : tie.Need-take-fields-requires
-take-fields-requires c κs = search needs
+take-fields-requires c κs =
+    let z = c .before .before .before .before .before in
+    (z .pre .0, (omega arith, z .pre .2, λ e. let k = z .pre .3 e in omega (arith, k)))
 
 same-length : tie.Need-same-length
 same-length c = search needs

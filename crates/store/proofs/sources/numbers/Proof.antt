@@ -23,7 +23,7 @@ slice-aggregate-get-2 c = search needs
 
 get-requires : tie.Need-get-requires
 unfolding storeLength
-get-requires c κs = (refl, omega arith, refl)
+get-requires c κs = (refl, omega arith, refl, λ e. omega arith)
 
 returns : tie.Need-returns
 returns c =

@@ -5,7 +5,7 @@ use mathlib.Core.Path.{refl, sym, _∙_}
 use native.Mathlib.Omega.{arith}
 use denote.Ref.{now}
 use lib.ListN.{drop}
-use Rattle.layout.proofs.Laws.{fields-front}
+use Rattle.layout.proofs.Laws.{fields-front, none-spare}
 use Rattle.store.specs.Slots.{partyLayout}
 use Rattle.store.specs.Store.{wallSize, storeLength, wallsBegin, wallParty}
 use borrow.Author.Needs.{needs}
@@ -26,7 +26,7 @@ slice-aggregate-get-2 c = search needs
 
 get-requires : tie.Need-get-requires
 unfolding storeLength
-get-requires c κs = (refl, omega arith, refl)
+get-requires c κs = (refl, omega arith, refl, none-spare)
 
 returns : tie.Need-returns
 unfolding wallsBegin
