@@ -10,7 +10,7 @@ use road::Shares;
 const TOP: u64 = 512_000_000_000_000_000;
 
 // Three energy sums.
-#[derive(Drop)]
+#[derive(Clone, Copy)]
 pub struct Account {
     pub day: u64,
     pub evening: u64,

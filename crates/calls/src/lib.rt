@@ -4,7 +4,7 @@ use answer::Refusal;
 use index::Index;
 
 // What a call answers: done, the two indices of a receiver (L_DEN, then L_Night), or a refusal.
-#[derive(Drop)]
+#[derive(Clone, Copy)]
 pub enum Answer {
     Done,
     Levels(Index, Index),

@@ -7,7 +7,7 @@ ghost use Rattle.course.specs.Course.{apart, mean, plan_between, length_of, leng
 const CUT_ABOVE: u32 = 250;
 
 // A piece of road by its middle and its length.
-#[derive(Drop)]
+#[derive(Clone, Copy)]
 pub struct Piece {
     pub x: u32,
     pub y: u32,
@@ -15,7 +15,7 @@ pub struct Piece {
 }
 
 // A road by its first end and its second.
-#[derive(Drop)]
+#[derive(Clone, Copy)]
 pub struct Ends {
     pub x1: u32,
     pub y1: u32,
@@ -24,14 +24,14 @@ pub struct Ends {
 }
 
 // A road is told by a piece that is not cut, or by its ends.
-#[derive(Drop)]
+#[derive(Clone, Copy)]
 pub enum Course {
     Uncut(Piece),
     Between(Ends),
 }
 
 // The lengths of two roads.
-#[derive(Drop)]
+#[derive(Clone, Copy)]
 pub struct Lengths {
     pub first: u32,
     pub second: u32,

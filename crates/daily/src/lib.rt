@@ -12,7 +12,7 @@ use course::Course;
 use road::{Source, Traffic, Verdict};
 
 // A class of road, the row of table 2 from 0 on, and how many vehicles the road has a day (DTV).
-#[derive(Drop)]
+#[derive(Clone, Copy)]
 pub struct Daily {
     pub class: u8,
     pub dtv: u32,

@@ -14,7 +14,7 @@ use course::{Course, Ends, Piece};
 use road::{Bar, Pair, Receiver, Shares, Source, Term, Traffic, Verdict};
 
 // What a road and a point make, or why they are refused.
-#[derive(Drop)]
+#[derive(Clone, Copy)]
 enum Outcome {
     Told(Shares),
     Refused(Refusal),

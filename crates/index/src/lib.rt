@@ -8,7 +8,7 @@ ghost use Rattle.index.specs.Index.{level_in, tenths_of, lift, lifted_of, lden_o
 use level::Loudness;
 
 // An index in tenths of a dB, or none.
-#[derive(Drop)]
+#[derive(Clone, Copy)]
 pub enum Index {
     Quiet,
     Tenths(u32),

@@ -15,7 +15,7 @@ use machine::{LONGEST_RECORD, State};
 const TURNS: u64 = 140737488355328;
 
 // The bytes at hand: from one place of the input to another, and whether the input is over or could not be read.
-#[derive(Drop)]
+#[derive(Clone, Copy)]
 pub struct Hand {
     pub from: usize,
     pub to: usize,
@@ -25,7 +25,7 @@ pub struct Hand {
 
 // How the program stands after a turn: the turn had the bytes from `start` to `to`, and left those from `from` on; it handed out so
 // many bytes of text; the job's state; and whether input could not be read or output not be written.
-#[derive(Drop)]
+#[derive(Clone, Copy)]
 pub struct Stand {
     pub start: usize,
     pub from: usize,
@@ -39,14 +39,14 @@ pub struct Stand {
 }
 
 // The last line: its length, and whether it was written.
-#[derive(Drop)]
+#[derive(Clone, Copy)]
 pub struct Last {
     pub wrote: usize,
     pub told: bool,
 }
 
 // How a run ends: whether the whole listing was written, whether the input was over, the records tried, and the length of the last line.
-#[derive(Drop)]
+#[derive(Clone, Copy)]
 pub struct End {
     pub whole: bool,
     pub over: bool,

@@ -17,7 +17,7 @@ use answer::Refusal;
 use road::{Bar, Pair, Receiver, Shares};
 
 // What a source slot brings.
-#[derive(Drop)]
+#[derive(Clone, Copy)]
 pub enum Offer {
     Free,
     Heard(Shares),
@@ -25,7 +25,7 @@ pub enum Offer {
 }
 
 // Where the gathering stopped, and the sums.
-#[derive(Drop)]
+#[derive(Clone, Copy)]
 pub struct Gathered {
     pub stop: Stop,
     pub sums: Account,

@@ -8,14 +8,14 @@ use road::Bar;
 use store::Seat;
 
 // Whether a receiver is blocked: by the first source that is barred there.
-#[derive(Drop)]
+#[derive(Clone, Copy)]
 pub enum Block {
     Nothing,
     By(Bar),
 }
 
 // A receiver with the sums of the sources that were heard so far.
-#[derive(Drop)]
+#[derive(Clone, Copy)]
 pub struct Tally {
     pub seat: Seat,
     pub block: Block,

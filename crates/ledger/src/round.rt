@@ -17,7 +17,7 @@ use road::{Bar, Pair, Receiver, Sent, Shares, Source};
 use store::{Held, Seat, SourceSlot};
 
 // Somebody on a round of the receivers, or nobody: what is sent, which is worked out once, by which source, and whether it is there at all.
-#[derive(Drop)]
+#[derive(Clone, Copy)]
 pub struct Sender {
     pub sent: Sent,
     pub source: Source,
@@ -25,7 +25,7 @@ pub struct Sender {
 }
 
 // What becomes of a receiver's account.
-#[derive(Drop)]
+#[derive(Clone, Copy)]
 pub enum Turn {
     Moved(Account),
     Barred(Bar),
@@ -33,14 +33,14 @@ pub enum Turn {
 }
 
 // Where a round stopped: nowhere, or at a refusal.
-#[derive(Drop)]
+#[derive(Clone, Copy)]
 pub enum Stop {
     Nowhere,
     At(Refusal),
 }
 
 // A round: where it stopped, whether a sum would leave its bounds, and the seats as they would be.
-#[derive(Drop)]
+#[derive(Clone, Copy)]
 pub struct Round {
     pub stop: Stop,
     pub late: bool,

@@ -9,7 +9,7 @@ use libc::{STDERR_FILENO, STDIN_FILENO, STDOUT_FILENO};
 use reading::Reading;
 
 // What is read of the line so far, whether all sheets before it could be written, and whether the input is over.
-#[derive(Drop)]
+#[derive(Clone, Copy)]
 struct Stand {
     reading: Reading,
     told: bool,

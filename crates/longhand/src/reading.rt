@@ -4,7 +4,7 @@ ghost use Rattle.std.specs.Prelude.{◌≡◌};
 ghost use Rattle.longhand.specs.Reading.{with_digit, fed_by};
 
 // What is read of a line so far: nothing, a number, or what is no number below 2^64.
-#[derive(Drop)]
+#[derive(Clone, Copy)]
 pub enum Reading {
     Nothing,
     Number(u64),

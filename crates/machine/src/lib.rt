@@ -11,14 +11,14 @@ ghost use Rattle.machine.specs.Inner.{TextPut, Entered, part};
 use service::Outcome;
 
 // How a job stands: the records tried, and whether it has stopped.
-#[derive(Drop)]
+#[derive(Clone, Copy)]
 pub struct State {
     pub count: u64,
     pub stopped: bool,
 }
 
 // How a feed leaves it, with the bytes used and the bytes of text handed out.
-#[derive(Drop)]
+#[derive(Clone, Copy)]
 pub struct Progress {
     pub count: u64,
     pub stopped: bool,
@@ -27,7 +27,7 @@ pub struct Progress {
 }
 
 // What one record comes to: how far the next one is, and where the next line goes.
-#[derive(Drop)]
+#[derive(Clone, Copy)]
 pub struct Entry {
     pub extent: usize,
     pub wrote: usize,

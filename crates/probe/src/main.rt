@@ -8,7 +8,7 @@ ghost use Rattle.std.specs.Prelude.{◌<◌};
 use libc::{STDERR_FILENO, STDIN_FILENO, STDOUT_FILENO};
 
 // A length of two bytes, most significant first, or that the input ends before it.
-#[derive(Drop)]
+#[derive(Clone, Copy)]
 enum Size {
     Bytes(usize),
     Ended,

@@ -8,14 +8,14 @@ use screen::Wall;
 
 // How the traffic of a source is told: by counts for each period, which the source has, or by its daily figure, as it can be for a piece
 // that is not cut.
-#[derive(Drop)]
+#[derive(Clone, Copy)]
 pub enum Counts {
     ByPeriod,
     ByDay(Piece, Daily),
 }
 
 // What a record asks for; the number is the slot. The road of PlaceSource stands beside the call, since it holds an array.
-#[derive(Drop)]
+#[derive(Clone, Copy)]
 pub enum Request {
     PlaceReceiver(u16, Receiver),
     WithdrawReceiver(u16),
@@ -27,28 +27,28 @@ pub enum Request {
 }
 
 // What a reading tells: a call, or why there is none.
-#[derive(Drop)]
+#[derive(Clone, Copy)]
 pub enum Told {
     Request(Request),
     Refused(Refusal),
 }
 
 // A reading. The source is the road of PlaceSource, by its daily figure the one that it stands for; all zero otherwise.
-#[derive(Drop)]
+#[derive(Clone, Copy)]
 pub struct Reading {
     pub told: Told,
     pub source: Source,
 }
 
 // What comes of writing.
-#[derive(Drop)]
+#[derive(Clone, Copy)]
 pub enum Written {
     Done,
     Refused(Refusal),
 }
 
 // The sizes of a kind's layout.
-#[derive(Drop)]
+#[derive(Clone, Copy)]
 pub struct Shape {
     pub count: usize,
     pub fields: usize,

@@ -4,7 +4,7 @@ use answer::Refusal;
 use course::{Course, Piece};
 
 // Traffic of one period: M in thousandths of a vehicle per hour, p in tenths of a percent.
-#[derive(Drop)]
+#[derive(Clone, Copy)]
 pub struct Traffic {
     pub m: u32,
     pub p: u16,
@@ -12,7 +12,7 @@ pub struct Traffic {
 
 // A road, the source's fields 2 to 19 of METHOD 4; those up to 4 are its course. Lengths are in cm. The gradient is the field's eight
 // bits: 128 for a road that falls, and the tenths of a percent.
-#[derive(Drop)]
+#[derive(Clone, Copy)]
 pub struct Source {
     pub course: Course,
     pub lanes: u8,
@@ -28,7 +28,7 @@ pub struct Source {
 }
 
 // A point where people live, the receiver's fields 2 to 4.
-#[derive(Drop)]
+#[derive(Clone, Copy)]
 pub struct Receiver {
     pub x: u32,
     pub y: u32,
@@ -36,28 +36,28 @@ pub struct Receiver {
 }
 
 // A level in hundredths of a dB as what it adds and what it takes off.
-#[derive(Drop)]
+#[derive(Clone, Copy)]
 pub struct Term {
     pub up: u32,
     pub down: u32,
 }
 
 // What speed gives, for every p: one car's level, and how much more energy a truck has than a car.
-#[derive(Drop)]
+#[derive(Clone, Copy)]
 pub struct Pace {
     pub car: u32,
     pub gain: u64,
 }
 
 // What a metre of road sends out in one period: whether there is traffic at all, and its level.
-#[derive(Drop)]
+#[derive(Clone, Copy)]
 pub struct Voice {
     pub sounds: bool,
     pub level: Term,
 }
 
 // What a road sends out: its voices by day, in the evening and at night, all of it as one piece, and what the length of that adds.
-#[derive(Drop)]
+#[derive(Clone, Copy)]
 pub struct Sent {
     pub voices: [Voice; 3],
     pub whole: Piece,
@@ -65,14 +65,14 @@ pub struct Sent {
 }
 
 // A share before it is told: too loud, or an energy.
-#[derive(Drop)]
+#[derive(Clone, Copy)]
 pub struct Part {
     pub loud: bool,
     pub energy: u64,
 }
 
 // The energies of one road at one point, by day, in the evening and at night.
-#[derive(Drop)]
+#[derive(Clone, Copy)]
 pub struct Shares {
     pub day: u64,
     pub evening: u64,
@@ -80,7 +80,7 @@ pub struct Shares {
 }
 
 // Why a road and a point do not go together: by a place or a length, by loudness, or by more than one wall between them.
-#[derive(Drop)]
+#[derive(Clone, Copy)]
 pub enum Bar {
     Near,
     Far,
@@ -90,14 +90,14 @@ pub enum Bar {
 }
 
 // What a road and a point make: three shares, or a bar.
-#[derive(Drop)]
+#[derive(Clone, Copy)]
 pub enum Pair {
     Heard(Shares),
     Barred(Bar),
 }
 
 // Whether fields are allowed.
-#[derive(Drop)]
+#[derive(Clone, Copy)]
 pub enum Verdict {
     Allowed,
     Refused(Refusal),

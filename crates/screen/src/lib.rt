@@ -13,14 +13,14 @@ ghost use Rattle.screen.specs.Screen.{wall_of, walls_of, Laid, one_more, look_at
 use course::Ends;
 
 // A point of the plan, in cm.
-#[derive(Drop)]
+#[derive(Clone, Copy)]
 pub struct Point {
     pub x: u32,
     pub y: u32,
 }
 
 // A wall: its two ends, and its height in cm.
-#[derive(Drop)]
+#[derive(Clone, Copy)]
 pub struct Wall {
     pub ends: Ends,
     pub height: u16,
@@ -30,7 +30,7 @@ pub struct Wall {
 pub const NUMBERS: usize = 5;
 
 // The walls that count between a piece and a point.
-#[derive(Drop)]
+#[derive(Clone, Copy)]
 pub enum Met {
     Nothing,
     One(Wall),
@@ -38,7 +38,7 @@ pub enum Met {
 }
 
 // What the walls take off, in hundredths of a dB; or that more than one counts.
-#[derive(Drop)]
+#[derive(Clone, Copy)]
 pub enum Loss {
     Off(u32),
     Twice,

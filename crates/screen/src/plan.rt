@@ -8,14 +8,14 @@ use crate::{Point, Wall};
 
 // Twice the area of a triangle as two sums, whose difference it is. Going from its first point to its second, the third lies left
 // or right as the left or the right sum is larger, and on the line where they are equal.
-#[derive(Drop)]
+#[derive(Clone, Copy)]
 pub struct Sides {
     pub left: u64,
     pub right: u64,
 }
 
 // An exact fraction.
-#[derive(Drop)]
+#[derive(Clone, Copy)]
 pub struct Ratio {
     pub num: u64,
     pub den: u64,

@@ -13,7 +13,7 @@ use crate::plan::Ratio;
 const SOURCE: u64 = 500;
 
 // From source to point in the plan and in space, the two parts of the plan line, and the heights of the point and of the wall's edge.
-#[derive(Drop)]
+#[derive(Clone, Copy)]
 pub struct Section {
     pub s0: u64,
     pub s: u64,
@@ -24,7 +24,7 @@ pub struct Section {
 }
 
 // The way over the edge and the way through the wall; the detour z is the first less the second.
-#[derive(Drop)]
+#[derive(Clone, Copy)]
 pub struct Detour {
     pub over: u64,
     pub through: u64,

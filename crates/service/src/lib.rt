@@ -13,7 +13,7 @@ use request::{Request, Told};
 use road::Source;
 
 // What comes of a record: done, the two indices of the receiver in a slot (L_DEN, then L_Night), or a refusal.
-#[derive(Drop)]
+#[derive(Clone, Copy)]
 pub enum Outcome {
     Done,
     Levels(u16, Index, Index),
@@ -21,7 +21,7 @@ pub enum Outcome {
 }
 
 // The outcome, and how many bytes on the next record begins; 0 where the job cannot go on.
-#[derive(Drop)]
+#[derive(Clone, Copy)]
 pub struct Deed {
     pub outcome: Outcome,
     pub extent: usize,

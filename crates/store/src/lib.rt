@@ -44,28 +44,28 @@ pub const WALLS_BEGIN: usize = SPLIT + RECEIVERS * RECEIVER_SIZE;
 pub const LENGTH: usize = WALLS_BEGIN + WALLS * WALL_SIZE;
 
 // A receiver in use with its account.
-#[derive(Drop)]
+#[derive(Clone, Copy)]
 pub struct Held {
     pub who: Receiver,
     pub sums: Account,
 }
 
 // A source slot as it is read: whether its mark says used, and its fields as they stand.
-#[derive(Drop)]
+#[derive(Clone, Copy)]
 pub struct SourceSlot {
     pub used: bool,
     pub source: Source,
 }
 
 // A receiver slot as it is read.
-#[derive(Drop)]
+#[derive(Clone, Copy)]
 pub struct Seat {
     pub used: bool,
     pub held: Held,
 }
 
 // A wall slot as it is read.
-#[derive(Drop)]
+#[derive(Clone, Copy)]
 pub struct WallSlot {
     pub used: bool,
     pub wall: Wall,
