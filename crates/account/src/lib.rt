@@ -1,5 +1,7 @@
 // A receiver's account: three energy sums, to which a source's shares are added and from which they are taken off.
 // What each function gives is a definition of specs/Account.antt.
+#![tactic(auto)]
+
 ghost use Rattle.std.specs.Prelude.{◌≡◌, true, leb, ◌+◌};
 ghost use Rattle.level.specs.Level.{top};
 ghost use Rattle.account.specs.Account.{sound, plus_of, minus_of, covers, room};

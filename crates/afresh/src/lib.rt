@@ -1,5 +1,7 @@
 // Every account worked out afresh, for walls that are others: each source is read and sends once, and is heard at every receiver.
 // What becomes of the accounts is told as a round, which no byte is written in.
+#![tactic(auto)]
+
 ghost use Rattle.std.specs.Prelude.{◌≡◌, false, map, ◌<◌, get_or, length};
 ghost use Rattle.std.proofs.Math.Option.{none};
 ghost use Rattle.level.specs.Table.{table};

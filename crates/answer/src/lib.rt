@@ -1,5 +1,7 @@
 // Why a call is refused: one case for each row of METHOD 9's table of numbers.
 // The number and the place that a caller is told are those of specs/Table.antt.
+#![tactic(auto)]
+
 ghost use Rattle.std.specs.Prelude.{◌≡◌};
 ghost use Rattle.answer.specs.Table.{number_of, place_of};
 

@@ -1,5 +1,7 @@
 // The book: sources, receivers and noise walls in a store that the caller lends, and the calls on it.
 // What each call answers and leaves, for every store, is a definition of calls/specs/Calls.antt; no call here requires anything.
+#![tactic(auto)]
+
 ghost use Rattle.std.specs.Prelude.{◌≡◌};
 ghost use Rattle.calls.specs.Calls.{on_store, clear_store, place_source, withdraw_source, place_receiver, withdraw_receiver, place_wall, withdraw_wall, ask_receiver};
 

@@ -1,5 +1,7 @@
 // The clerk: one record at the front of a job, read and done to a store. It takes any bytes and any store, and requires nothing.
 // What comes of a record is a definition of service/specs/Service.antt.
+#![tactic(auto)]
+
 ghost use Rattle.std.specs.Prelude.{◌≡◌};
 ghost use Rattle.service.specs.Service.{done_to};
 

@@ -1,5 +1,7 @@
 // Job records (METHOD 3): read from the front of a job, and written, most significant bit first,
 // with the level table lent. What each kind says is in `kinds`; refusals and bytes are done here, once for all kinds.
+#![tactic(auto)]
+
 ghost use Rattle.std.specs.Prelude.{◌≡◌, ◌++◌, ◌≤◌, ◌<◌, length, drop};
 ghost use Rattle.level.specs.Table.{table};
 ghost use Rattle.layout.specs.Layout.{size, fields, packed, Within};

@@ -1,5 +1,7 @@
 // Where a road runs (METHOD 7): an uncut piece by its middle and its length, or between two ends, which is cut into pieces for a point.
 // What the cutting is made of is here; the recursion over the halves adds up shares, and is in the crate reach.
+#![tactic(auto)]
+
 ghost use Rattle.std.specs.Prelude.{◌≡◌, ◌^◌, ◌<◌, ◌≤◌};
 ghost use Rattle.course.specs.Course.{apart, mean, plan_between, length_of, lengths_of, one_piece, whole_of, first_half, second_half, too_long, Mapped, Drawn};
 

@@ -1,5 +1,7 @@
 // Traffic by the daily figure: the counts that a class of road and its vehicles a day stand for (VBUS table 2), and which are allowed.
 // The table and the fields are those of specs/Daily.antt.
+#![tactic(auto)]
+
 ghost use Rattle.std.specs.Prelude.{◌≡◌, [], ◌++◌, ◌*◌, ◌^◌, ◌≤◌, ◌<◌, length, get_or, drop};
 ghost use Rattle.level.specs.Table.{table};
 ghost use Rattle.layout.specs.Layout.{Within};

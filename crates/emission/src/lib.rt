@@ -1,5 +1,7 @@
 // What a road gives out (VBUS section 3.5), worked out once for a source, whatever the points are.
 // The terms are those of road/specs/Emission.antt, one function for each.
+#![tactic(auto)]
+
 ghost use Rattle.std.specs.Prelude.{◌≡◌, ◌+◌, ◌-◌, ◌*◌, ◌<◌, ◌≤◌, min, max};
 ghost use Rattle.level.specs.Table.{table};
 ghost use Rattle.road.specs.declared.Verdict.TheVariants.{Allowed};

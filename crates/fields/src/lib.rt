@@ -1,5 +1,7 @@
 // The fields of a source, of a receiver and of a noise wall, a row for each, as in road/specs/Fields.antt: what records, slots and verdicts are made from.
 // Values are numbers of 64 bits in the order of the rows.
+#![tactic(auto)]
+
 pub mod limits;
 
 ghost use Rattle.std.specs.Prelude.{◌≡◌, cond, [], ◌+◌, ◌^◌, ◌≤◌, ◌<◌, length, get_or, drop};

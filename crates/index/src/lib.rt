@@ -1,5 +1,7 @@
 // The two indices of a point, L_DEN and L_Night, from its three sums of energy (VBUS equation 2).
 // Both are told in tenths of a dB, or as quiet where there is no level.
+#![tactic(auto)]
+
 ghost use Rattle.std.specs.Prelude.{◌≡◌, ◌+◌, ◌*◌, ◌/◌, ◌<◌, ◌≤◌};
 ghost use Rattle.level.specs.Table.{table};
 ghost use Rattle.level.specs.Level.{top, loudness_of};

@@ -1,5 +1,7 @@
 // The job program: a job from standard input is done to a cleared book, and its listing goes to standard output.
 // Input and output move in large pieces; memory does not grow with the job.
+#![tactic(auto)]
+
 mod pipe;
 
 ghost use Rattle.std.specs.Prelude.{◌≡◌, length};

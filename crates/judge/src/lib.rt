@@ -1,5 +1,7 @@
 // Which fields are allowed: refusals 5, 6 and 7 of METHOD 9, by the limits of the rows of the crate fields.
 // The slot is field 1 and is judged first.
+#![tactic(auto)]
+
 ghost use Rattle.std.specs.Prelude.{◌≡◌, ◌<◌, length};
 ghost use Rattle.level.specs.Table.{table};
 ghost use Rattle.road.specs.Fields.{piece_table, ends_table, length_table, road_table, source_table, receiver_table, wall_table, number_at};

@@ -1,5 +1,7 @@
 // The kinds of record: the layout of each, its call, which calls are allowed, and the fields of a call.
 // A new kind is a new row of the tables and a new arm of each match.
+#![tactic(auto)]
+
 ghost use Rattle.std.specs.Prelude.{◌≡◌, ◌∷◌, ◌++◌, ◌+◌, ◌≤◌, ◌<◌, length};
 ghost use Rattle.level.specs.Table.{table};
 ghost use Rattle.layout.specs.Layout.{size, Within};

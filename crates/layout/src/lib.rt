@@ -1,5 +1,7 @@
 // The fields of a record or of a slot, read from bytes and written to bytes, by a layout that is data.
 // A layout is a list of widths in bits; the first field stands highest, and the bytes are one big-endian number.
+#![tactic(auto)]
+
 ghost use Rattle.std.specs.Prelude.{◌≡◌, true, ◌++◌, ◌+◌, ◌*◌, ◌/◌, ◌^◌, ◌%◌, ◌≤◌, ◌<◌, length, take, drop};
 ghost use Rattle.layout.specs.Layout.{num, bytes_of, bits, size, sized, fields, packed, Within};
 ghost use Rattle.layout.specs.Bounds.{first_outside};

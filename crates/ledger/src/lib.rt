@@ -1,5 +1,7 @@
 // The ledger of a book: what a source that goes and one that comes make of every account, and what all sources bring to one.
 // The store is undamaged and the fields are allowed; what each function gives is a definition of specs/Ledger.antt.
+#![tactic(auto)]
+
 pub mod fences;
 pub mod gather;
 pub mod round;

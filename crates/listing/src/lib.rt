@@ -1,5 +1,7 @@
 // The lines of the listing (METHOD 10): an ask's two levels, a refusal's number, and the last line with the count.
 // A line is written at the front of the bytes that the caller lends; with less room than every line has nothing is written.
+#![tactic(auto)]
+
 ghost use Rattle.std.specs.Prelude.{◌≡◌, ◌∷◌, ◌++◌, ◌+◌, ◌≤◌, length};
 ghost use Rattle.listing.specs.Listing.{two_digits, level_text, ask_line, refusal_line, end_line, line_of, put};
 ghost use Rattle.index.specs.declared.Index.TheVariants.{Tenths};

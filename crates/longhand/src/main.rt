@@ -1,5 +1,7 @@
 // Whole numbers come in, one on each line, and for each goes out how its root is worked by hand, in binary (specs/Sheet.antt).
 // What is read and what is written in which order no contract says; what a line means and what a sheet holds is proved.
+#![tactic(auto)]
+
 mod reading;
 mod sheet;
 

@@ -1,5 +1,7 @@
 // A job fed in pieces: its records are done one after the other to an undamaged store, and their lines handed out as far as there is room.
 // No input or output here: the bytes and the room are lent. Fed any pieces, the texts together are the listing of the job (specs/Pieces.antt).
+#![tactic(auto)]
+
 ghost use Rattle.std.specs.Prelude.{◌≡◌, false, ◌++◌, ◌+◌, ◌-◌, ◌≤◌, ◌<◌, length, drop};
 ghost use Rattle.level.specs.Table.{table};
 ghost use Rattle.store.specs.Store.{damaged};

@@ -1,5 +1,7 @@
 // For the tests: a store and a record come in, the clerk's answer and the store afterwards go out; or a call and a room to write its record.
 // What the clerk and the writer do is proved in `clerk` and `record`; what a frame says is in specs/; of input and output no contract speaks.
+#![tactic(auto)]
+
 mod call;
 mod head;
 

@@ -1,5 +1,7 @@
 // What of a road reaches a point (VBUS sections 3.4, 3.6, 3.7, 3.9, 3.10): a pair's three shares, or why it is barred.
 // The terms are those of road's specs/Reach.antt; what the road sends out has been worked out before.
+#![tactic(auto)]
+
 ghost use Rattle.std.specs.Prelude.{◌≡◌, ◌+◌, ◌-◌, ◌*◌, ◌<◌, ◌≤◌, [], ◌∷◌};
 ghost use Rattle.level.specs.Table.{table};
 ghost use Rattle.screen.specs.Screen.{walls_of, Laid};

@@ -1,5 +1,7 @@
 // Job records for any caller (METHOD 3): no call here requires anything.
 // What a record is, and how it is read and written, is in `codec`; here each call makes the level table that `codec` is lent.
+#![tactic(auto)]
+
 ghost use Rattle.std.specs.Prelude.{◌≡◌, ◌≤◌, length, take};
 ghost use Rattle.request.specs.Record.{extent_of, read_of, part_of, write_of};
 

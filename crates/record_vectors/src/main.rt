@@ -1,5 +1,7 @@
 // Byte vectors of job records, read and written again, and held to the file stdout.
 // A line is the length of the part, and then the output of 36 bytes FF after writing, or the number and the place of a refusal.
+#![tactic(auto)]
+
 use answer::Refusal;
 use libc::STDOUT_FILENO;
 use record::{Request, Told, Written};

@@ -1,5 +1,7 @@
 // What a record asks for (METHOD 3): the kinds of record, and what reading and writing one give, as definitions with their laws.
 // The only code here is the types; the kinds are told apart by the crate kinds, and bytes are read and written by codec.
+#![tactic(auto)]
+
 use answer::Refusal;
 use course::Piece;
 use daily::Daily;

@@ -1,5 +1,7 @@
 // Roads and the points where people live: which fields are allowed, what a road gives out, what of it reaches a point (VBUS sections 3.3 to 3.10).
 // Each is a definition in specs/, with its laws in proofs/; the only code here is the types. Its values are given by emission, judge and reach.
+#![tactic(auto)]
+
 use answer::Refusal;
 use course::{Course, Piece};
 

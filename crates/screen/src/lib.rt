@@ -1,5 +1,7 @@
 // Noise walls (VBUS section 3.9, METHOD 7): which of the standing walls count between a piece of road and a point, and what the one that
 // counts takes off. In the plan: `plan`. In the upright section through piece, wall and point: `section`.
+#![tactic(auto)]
+
 pub mod plan;
 pub mod section;
 

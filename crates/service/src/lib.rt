@@ -1,5 +1,7 @@
 // One record at the front of a job, read and done to a store that is known to be undamaged, with the level table lent.
 // What comes of it is a definition of specs/Service.antt, and the store stays undamaged.
+#![tactic(auto)]
+
 ghost use Rattle.std.specs.Prelude.{◌≡◌, false};
 ghost use Rattle.level.specs.Table.{table};
 ghost use Rattle.store.specs.Store.{damaged};

@@ -1,5 +1,7 @@
 // The book's state as bytes that the caller lends (docs/STORE.md): source slots, then receiver slots with their accounts, then wall slots.
 // specs/Store.antt says what book stands in the bytes and what damage is; the parts here read and write one slot.
+#![tactic(auto)]
+
 pub mod receivers;
 mod slot;
 pub mod sources;

@@ -1,5 +1,7 @@
 // Numbers in decimal, and texts, written into the bytes that a caller lends, from a place on; each function gives the place after it.
 // What they are is in specs/Text.antt.
+#![tactic(auto)]
+
 ghost use Rattle.std.specs.Prelude.{◌≡◌, ◌+◌, ◌≤◌, length};
 ghost use Rattle.text.specs.Text.{decimal, last_digits, written};
 

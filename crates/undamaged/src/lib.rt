@@ -1,5 +1,7 @@
 // The calls of the book on a store that is known to be undamaged, with the level table lent: no look for damage.
 // What each answers and leaves is a definition of calls/specs/Calls.antt; the store stays undamaged, so that the next call can follow.
+#![tactic(auto)]
+
 ghost use Rattle.std.specs.Prelude.{◌≡◌, true, false, cond, ◌<◌, get_or, set};
 ghost use Rattle.std.proofs.Math.Option.{none, some};
 ghost use Rattle.level.specs.Table.{table};

@@ -1,5 +1,7 @@
 // The book for programs in C: clear, apply a record and ask, over a store that the caller keeps. include/ngoretaiwhe.h declares them.
 // What each returns and leaves is a definition of specs/Viewer.antt, for any bytes lent; no call requires anything.
+#![tactic(auto)]
+
 ghost use Rattle.std.specs.Prelude.{◌≡◌, min};
 ghost use Rattle.std.proofs.Math.Option.{none, some};
 ghost use Rattle.service.specs.Service.{outcome_refusal, done_to};

@@ -14,28 +14,28 @@ use Rattle.afresh.proofs.hear.Statement.{statement}
 use Rattle.afresh.proofs.hear.Tie as tie
 
 -- somebody is in the seat
-used : (c : tie.Else1) → c.before.before.before.before.args.t.seat.used ≡ true
-used c = not-false _ c.if1.false
+used : (c : tie.Else-not-seat) → c.args.t.seat.used ≡ true
+used c = not-false _ c.if-not-seat.false
 
 -- with the pair that was worked out
-by_pair : (c : tie.After-pair) (q : Pair) → c.pair.result ≡ q → let a = c.before.before.before.before.before.before.before.args in
+by_pair : (c : tie.After-pair) (q : Pair) → c.pair.result ≡ q → let a = c.args in
     heard_by q a.t ≡ heard_from (pair_of (walls_of a.walls.now)) a.s a.t
 by_pair c q e =
-    let a = c.before.before.before.before.before.before.before.args in
+    let a = c.args in
     ap (λ (p : Pair). heard_by p a.t) (sym e ∙ c.pair.ensures)
     ∙ sym (ap (λ (b : Bool). cond b (heard_by (pair_of (walls_of a.walls.now) a.s a.t.seat.held.who) a.t) a.t) (used c.before.before.before))
 
-returns : tie.Need-returns
+returns : tie.Need-returns-then-not-seat
 returns c =
-    let a = c.before.before.before.before.args in
-    sym (ap (λ (b : Bool). cond b (heard_by (pair_of (walls_of a.walls.now) a.s a.t.seat.held.who) a.t) a.t) (not-true a.t.seat.used c.if1.true))
+    let a = c.args in
+    sym (ap (λ (b : Bool). cond b (heard_by (pair_of (walls_of a.walls.now) a.s a.t.seat.held.who) a.t) a.t) (not-true a.t.seat.used c.if-not-seat.true))
 
 pair-requires : tie.Need-pair-requires
 pair-requires c κs =
     let s = c.before.before.before.before.before.before in
     (s.requires.0, s.requires.1, s.requires.2, s.requires.4.stands (used c.before.before), s.requires.3)
 
-enum-known-shares : tie.Need-enum-known-shares
+enum-known-shares : tie.Need-enum_known-shares
 enum-known-shares c = search rules
 
 add-requires : tie.Need-add-requires
@@ -43,29 +43,21 @@ add-requires c κs =
     let p = c.before.before.before in
     let s = p.before.before.before.before.before.before.before in
     let a = s.args in
-    (s.requires.4, subst Mild (sym p.pair.ensures ∙ c.before.shares.given.1) (pair_bounded (walls_of a.walls.now) a.s a.t.seat.held.who))
+    (s.requires.4, subst Mild (sym p.pair.ensures ∙ c.shares-1.given.1) (pair_bounded (walls_of a.walls.now) a.s a.t.seat.held.who))
 
-enum-known-why : tie.Need-enum-known-why
+enum-known-why : tie.Need-enum_known-why
 enum-known-why c = search rules
 
 bar-requires : tie.Need-bar-requires
 bar-requires c κs = search rules
 
-returns-2 : tie.Need-returns-2
-returns-2 c = c.add.ensures ∙ by_pair c.before.before.before.before _ c.before.before.shares.given.1
+returns-2 : tie.Need-returns-in-Heard
+returns-2 c = c.add.ensures ∙ by_pair c.before.before.before.before _ c.shares-1.given.1
 
-returns-3 : tie.Need-returns-3
-returns-3 c = c.bar.ensures ∙ by_pair c.before.before.before.before _ c.before.before.why.given.1
+returns-3 : tie.Need-returns-in-Barred
+returns-3 c = c.bar.ensures ∙ by_pair c.before.before.before.before _ c.why-1.given.1
 
 pub hear_spec : {M : Type 1} → statement M
 hear_spec =
     tie.close
-    (tie.spec
-    returns
-    pair-requires
-    enum-known-shares
-    add-requires
-    enum-known-why
-    bar-requires
-    returns-2
-    returns-3)
+    (tie.spec returns pair-requires enum-known-shares add-requires enum-known-why bar-requires returns-2 returns-3)

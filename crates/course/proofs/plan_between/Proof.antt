@@ -12,29 +12,31 @@ use Rattle.course.proofs.plan_between.Tie as tie
 near : (a b d : ℕ) → a < 2 ^ 24 → b < 2 ^ 24 → d ≡ apart a b → d * d ≤ 2 ^ 48
 near a b d h l e = let s : d ≤ 2 ^ 24 = omega arith in let t : d * d ≤ 2 ^ 24 * 2 ^ 24 = mul-le-mul s s in t
 
-apart-requires : tie.Need-apart-requires
+apart-requires : tie.Need-apart-dx-requires
 apart-requires c κs = search rules
 
-apart-requires-2 : tie.Need-apart-requires-2
+apart-requires-2 : tie.Need-apart-dy-requires
 apart-requires-2 c κs = search rules
 
-across : (c : tie.After-apart2) → c.before.apart.result * c.before.apart.result ≤ 2 ^ 48
-across c = let s = c.before.before in near s.args.x1 s.args.x2 _ s.requires.0 s.requires.2 c.before.apart.ensures
+across : (c : tie.After-apart-dy) → c.apart-dx.result * c.apart-dx.result ≤ 2 ^ 48
+across c = let s = c.before.before in near s.args.x1 s.args.x2 _ s.requires.0 s.requires.2 c.apart-dx.ensures
 
-along : (c : tie.After-apart2) → c.apart2.result * c.apart2.result ≤ 2 ^ 48
-along c = let s = c.before.before in near s.args.y1 s.args.y2 _ s.requires.1 s.requires.3 c.apart2.ensures
+along : (c : tie.After-apart-dy) → c.apart-dy.result * c.apart-dy.result ≤ 2 ^ 48
+along c = let s = c.before.before in near s.args.y1 s.args.y2 _ s.requires.1 s.requires.3 c.apart-dy.ensures
 
-mul-across : tie.Need-overflow-mul-across
+mul-across : tie.Need-overflow_mul-across
 mul-across c = omega (arith, across c)
 
-mul-along : tie.Need-overflow-mul-along
+mul-along : tie.Need-overflow_mul-along
 mul-along c = omega (arith, along c)
 
-add-result : tie.Need-overflow-add-result
+add-result : tie.Need-overflow_add-result
 add-result c = omega (arith, across c, along c)
 
 returns : tie.Need-returns
-returns c = ap₂ (λ (a b : ℕ). a * a + b * b) c.before.apart.ensures c.apart2.ensures
+returns c = ap₂ (λ (a b : ℕ). a * a + b * b) c.apart-dx.ensures c.apart-dy.ensures
 
 pub plan_between_spec : {M : Type 1} → statement M
-plan_between_spec = tie.close (tie.spec apart-requires apart-requires-2 mul-across mul-along add-result returns)
+plan_between_spec =
+    tie.close
+    (tie.spec apart-requires apart-requires-2 mul-across mul-along add-result returns)

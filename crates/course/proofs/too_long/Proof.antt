@@ -9,14 +9,16 @@ use Rattle.course.proofs.too_long.Tie as tie
 square : (c : tie.Start) → c.args.l * c.args.l ≤ 2 ^ 25 * 2 ^ 25
 square c = mul-le-mul c.requires c.requires
 
-mul-square : tie.Need-overflow-mul-square
+mul-square : tie.Need-overflow_mul-square
 mul-square c = omega (arith, square c)
 
-mul-result : tie.Need-overflow-mul-result
+mul-result : tie.Need-overflow_mul-result
 mul-result c = omega (arith, square c)
 
 returns : tie.Need-returns
 returns c = search rules
 
 pub too_long_spec : {M : Type 1} → statement M
-too_long_spec = tie.close (tie.spec mul-square mul-result returns)
+too_long_spec =
+    tie.close
+    (tie.spec mul-square mul-result returns)

@@ -11,13 +11,13 @@ use Rattle.road.proofs.Sums.{term_eq, small_surface, small_gradient, small_refle
 use Rattle.emission.proofs.steady_of.Statement.{statement}
 use Rattle.emission.proofs.steady_of.Tie as tie
 
-cast-within : tie.Need-overflow-cast-within
+cast-within : tie.Need-overflow_cast-s
 cast-within c = search rules
 
 within-requires : tie.Need-within-requires
 within-requires c κs = search rules
 
-surface-requires : tie.Need-surface-requires
+surface-requires : tie.Need-surface-on-requires
 surface-requires c κs =
     let start = c.before.before in
     let f = fit_source start.args.s start.requires in
@@ -27,52 +27,54 @@ gradient-requires : tie.Need-gradient-requires
 gradient-requires c κs = search rules
 
 -- the surface's term, by the speed in range
-on_is : (c : tie.After-surface) → c.surface.result ≡ surface_term c.before.before.before.args.s.surface (car_speed c.before.before.before.args.s.car)
-on_is c = c.surface.ensures ∙ ap (surface_term c.before.before.before.args.s.surface) c.before.within.ensures
+on_is : (c : tie.After-surface-on) → c.surface-on.result ≡ surface_term c.args.s.surface (car_speed c.args.s.car)
+on_is c = c.surface-on.ensures ∙ ap (surface_term c.args.s.surface) c.within.ensures
 
-on_up : (c : tie.After-surface) → c.surface.result.up ≤ 2000
+on_up : (c : tie.After-surface-on) → c.surface-on.result.up ≤ 2000
 on_up c =
-    let s = c.before.before.before.args.s in
+    let s = c.args.s in
     omega (arith, ap (λ (t : Term). t.up) (on_is c), (small_surface s.surface (car_speed s.car)).up)
 
-on_down : (c : tie.After-surface) → c.surface.result.down ≤ 2000
+on_down : (c : tie.After-surface-on) → c.surface-on.result.down ≤ 2000
 on_down c =
-    let s = c.before.before.before.args.s in
+    let s = c.args.s in
     omega (arith, ap (λ (t : Term). t.down) (on_is c), (small_surface s.surface (car_speed s.car)).down)
 
-add-up : tie.Need-overflow-add-up
+add-up : tie.Need-overflow_add-up
 add-up c =
     let start = c.before.before.before.before.before in
-    omega (arith, on_up c.before.before, c.before.gradient.ensures, (small_gradient start.args.s.gradient).up)
+    omega (arith, on_up c.before.before, c.gradient.ensures, (small_gradient start.args.s.gradient).up)
 
 walls-requires : tie.Need-walls-requires
 walls-requires c κs =
     let start = c.before.before.before.before.before in
     (fit_source start.args.s start.requires).spaced
 
-add-up-2 : tie.Need-overflow-add-up-2
+add-up-2 : tie.Need-overflow_add-up-2
 add-up-2 c =
     let start = c.before.before.before.before.before.before in
     let s = start.args.s in
-    omega (arith, on_up c.before.before.before, c.before.before.gradient.ensures, (small_gradient s.gradient).up, c.walls.ensures, (small_walls s.walls s.height s.spacing).up)
+    omega (arith, on_up c.before.before.before, c.gradient.ensures, (small_gradient s.gradient).up, c.walls.ensures, (small_walls s.walls s.height s.spacing).up)
 
 reflection-requires : tie.Need-reflection-requires
 reflection-requires c κs =
     let start = c.before.before.before.before.before.before in
     omega (arith, (fit_source start.args.s start.requires).coded)
 
-add-down : tie.Need-overflow-add-down
+add-down : tie.Need-overflow_add-down
 add-down c =
     let start = c.before.before.before.before.before.before.before.before in
-    omega (arith, on_down c.before.before.before.before.before, c.before.reflection.ensures, (small_reflection start.args.s.reflection).down)
+    omega (arith, on_down c.before.before.before.before.before, c.reflection.ensures, (small_reflection start.args.s.reflection).down)
 
 returns : tie.Need-returns
 unfolding gradient_term reflection_term walls_term
 returns c =
     let on = on_is c.before.before.before.before.before in
     term_eq _ _
-    (omega (arith, ap (λ (t : Term). t.up) on, c.before.before.before.before.gradient.ensures, c.before.before.walls.ensures))
-    (omega (arith, ap (λ (t : Term). t.down) on, c.before.reflection.ensures))
+    (omega (arith, ap (λ (t : Term). t.up) on, c.gradient.ensures, c.walls.ensures))
+    (omega (arith, ap (λ (t : Term). t.down) on, c.reflection.ensures))
 
 pub steady_of_spec : {M : Type 1} → statement M
-steady_of_spec = tie.close (tie.spec cast-within within-requires surface-requires gradient-requires add-up walls-requires add-up-2 reflection-requires add-down returns)
+steady_of_spec =
+    tie.close
+    (tie.spec cast-within within-requires surface-requires gradient-requires add-up walls-requires add-up-2 reflection-requires add-down returns)

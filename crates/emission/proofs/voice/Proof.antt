@@ -13,51 +13,53 @@ use Rattle.road.proofs.Sums.{Small, weighed, small_traffic, small_speed}
 use Rattle.emission.proofs.voice.Statement.{statement}
 use Rattle.emission.proofs.voice.Tie as tie
 
-returns : tie.Need-returns
-returns c = rw (eq-eqb c.before.before.args.t.m 0 (omega arith))
+returns : tie.Need-returns-then-t-eq0
+returns c = rw (eq-eqb c.args.t.m 0 (omega arith))
 
-traffic-requires : tie.Need-traffic-requires
+traffic-requires : tie.Need-traffic-at_25-requires
 traffic-requires c κs = search rules
 
-speed-requires : tie.Need-speed-requires
+speed-requires : tie.Need-speed-by_speed-requires
 speed-requires c κs = search rules
 
 -- what the traffic and the speed give is small
-at_25 : (c : tie.After-traffic) → Small 20000 c.traffic.result
+at_25 : (c : tie.After-traffic-at_25) → Small 20000 c.traffic-at_25.result
 at_25 c =
     let start = c.before.before.before in
-    let p = start.requires.0 in
-    rw c.traffic.ensures (small_traffic start.args.lanes start.args.t (weighed start.args.t (pos_of_ne-zero c.before.if1.false) p.3 p.4))
+    let p = start.requires.steps_value in
+    rw c.traffic-at_25.ensures (small_traffic start.args.lanes start.args.t (weighed start.args.t (pos_of_ne-zero c.if-t-eq0.false) p.3 p.4))
 
-by_speed : (c : tie.After-speed) → Small 40000 c.speed.result
+by_speed : (c : tie.After-speed-by_speed) → Small 40000 c.speed-by_speed.result
 by_speed c =
     let start = c.before.before.before.before in
-    let p = start.requires.0 in
-    rw c.speed.ensures (small_speed start.args.pace start.args.t.p (record { car = p.1; gain = p.2 }) p.4)
+    let p = start.requires.steps_value in
+    rw c.speed-by_speed.ensures (small_speed start.args.pace start.args.t.p (record { car = p.1; gain = p.2 }) p.4)
 
-add-up : tie.Need-overflow-add-up
+add-up : tie.Need-overflow_add-up
 add-up c = omega (arith, (at_25 c.before.before.before).up, (by_speed c.before.before).up)
 
-add-up-2 : tie.Need-overflow-add-up-2
+add-up-2 : tie.Need-overflow_add-up-2
 add-up-2 c =
     let start = c.before.before.before.before.before.before.before in
-    omega (arith, (at_25 c.before.before.before.before).up, (by_speed c.before.before.before).up, start.requires.1.0)
+    omega (arith, (at_25 c.before.before.before.before).up, (by_speed c.before.before.before).up, start.requires.up_bound.0)
 
-add-down : tie.Need-overflow-add-down
+add-down : tie.Need-overflow_add-down
 add-down c = omega (arith, (at_25 c.before.before.before.before.before.before).down, (by_speed c.before.before.before.before.before).down)
 
-add-down-2 : tie.Need-overflow-add-down-2
+add-down-2 : tie.Need-overflow_add-down-2
 add-down-2 c =
     let start = c.before.before.before.before.before.before.before.before.before.before in
-    omega (arith, (at_25 c.before.before.before.before.before.before.before).down, (by_speed c.before.before.before.before.before.before).down, start.requires.1.1)
+    omega (arith, (at_25 c.before.before.before.before.before.before.before).down, (by_speed c.before.before.before.before.before.before).down, start.requires.up_bound.1)
 
-returns-2 : tie.Need-returns-2
+returns-2 : tie.Need-returns
 returns-2 c =
     let start = c.before.before.before.before.before.before.before.before.before.before in
-    rw (ne_eqb start.args.t.m 0 c.before.before.before.before.before.before.before.before.if1.false)
+    rw (ne_eqb start.args.t.m 0 c.if-t-eq0.false)
     (ap₂ (λ (a b : Term). record { sounds = true; level = a ⊕ b ⊕ start.args.steady })
-    c.before.before.before.before.before.before.before.traffic.ensures
-    c.before.before.before.before.before.before.speed.ensures)
+    c.traffic-at_25.ensures
+    c.speed-by_speed.ensures)
 
 pub voice_spec : {M : Type 1} → statement M
-voice_spec = tie.close (tie.spec returns traffic-requires speed-requires add-up add-up-2 add-down add-down-2 returns-2)
+voice_spec =
+    tie.close
+    (tie.spec returns traffic-requires speed-requires add-up add-up-2 add-down add-down-2 returns-2)

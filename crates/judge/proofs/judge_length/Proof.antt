@@ -14,56 +14,48 @@ use borrow.Author.Rules.{rules}
 use Rattle.judge.proofs.judge_length.Statement.{statement}
 use Rattle.judge.proofs.judge_length.Tie as tie
 
-length-requires : tie.Need-length-requires
+length-requires : tie.Need-length-long-requires
 length-requires c κs = search rules
 
-cast-long : tie.Need-overflow-cast-long
+cast-long : tie.Need-overflow_cast-long
 cast-long c = search rules
 
-slice-aggregate-first-outside : tie.Need-slice-aggregate-first-outside
+slice-aggregate-first-outside : tie.Need-slice_bounds-first_outside-end
 slice-aggregate-first-outside c = search rules
 
-slice-aggregate-first-outside-2 : tie.Need-slice-aggregate-first-outside-2
+slice-aggregate-first-outside-2 : tie.Need-slice_bounds-first_outside-end-2
 slice-aggregate-first-outside-2 c = search rules
 
-slice-aggregate-first-outside-3 : tie.Need-slice-aggregate-first-outside-3
+slice-aggregate-first-outside-3 : tie.Need-slice_bounds-first_outside-end-3
 slice-aggregate-first-outside-3 c = search rules
 
-first-outside-requires : tie.Need-first-outside-requires
+first-outside-requires : tie.Need-first_outside-at-requires
 first-outside-requires c κs = search rules
 
-told : (c : tie.After-first-outside) → c.first-outside.result ≡ outside_by length_table c.before.before.before.before.before.args.e
+told : (c : tie.After-first_outside-at) → c.first_outside-at.result ≡ outside_by length_table c.args.e
 told c =
     let l = c.before.before.before.before in
-    let e = l.before.args.e in
-    c.first-outside.ensures ∙ ap (λ (n : ℕ). first_outside (least_by length_table e) (most_by length_table e) (n ∷ [])) l.length.ensures
+    let e = l.args.e in
+    c.first_outside-at.ensures ∙ ap (λ (n : ℕ). first_outside (least_by length_table e) (most_by length_table e) (n ∷ [])) l.length-long.ensures
 
 number_first : (at : ℕ) → at ≡ 0 → number_at length_table at ≡ 4
 number_first at e = ap (number_at length_table) e
 
-returns : tie.Need-returns
+returns : tie.Need-returns-then-at-lt1
 returns c =
     let b = c.before in
     let z = b.before.before.before.before.before in
-    let n : b.first-outside.result ≡ 0 = omega (arith, c.if1.true) in
-    ap (λ (m : ℕ). Refused (Field m)) (sym (number_first b.first-outside.result n))
-    ∙ outside length_table z.args.e z.args.other b.first-outside.result (told b) c.if1.true
+    let n : b.first_outside-at.result ≡ 0 = omega (arith, c.if-at-lt1.true) in
+    ap (λ (m : ℕ). Refused (Field m)) (sym (number_first b.first_outside-at.result n))
+    ∙ outside length_table z.args.e z.args.other b.first_outside-at.result (told b) c.if-at-lt1.true
 
-returns-2 : tie.Need-returns-2
+returns-2 : tie.Need-returns
 returns-2 c =
     let b = c.before in
     let z = b.before.before.before.before.before in
-    inside length_table z.args.e z.args.other b.first-outside.result (told b) c.if1.false
+    inside length_table z.args.e z.args.other b.first_outside-at.result (told b) c.if-at-lt1.false
 
 pub judge_length_spec : {M : Type 1} → statement M
 judge_length_spec =
     tie.close
-    (tie.spec
-    length-requires
-    cast-long
-    slice-aggregate-first-outside
-    slice-aggregate-first-outside-2
-    slice-aggregate-first-outside-3
-    first-outside-requires
-    returns
-    returns-2)
+    (tie.spec length-requires cast-long slice-aggregate-first-outside slice-aggregate-first-outside-2 slice-aggregate-first-outside-3 first-outside-requires returns returns-2)

@@ -10,88 +10,74 @@ use Rattle.layout.proofs.Turns.{Taken, taken_none, taken_room, taken_more, taken
 use Rattle.layout.proofs.take_fields.Statement.{statement}
 use Rattle.layout.proofs.take_fields.Tie as tie
 
-abbrev invariant-loop : tie.invariant-loop
+abbrev invariant-loop : tie.invariant-loop-i
 invariant-loop s ws vs₀ spare at₀ i₀ vs at i = (i ≤ length ws) × (length vs ≡ length vs₀) × Taken s ws vs at i
 
-abbrev decreases-loop : tie.decreases-loop
+abbrev decreases-loop : tie.decreases-loop-i
 decreases-loop s ws vs₀ spare at₀ i₀ vs at i = length ws - i
 
 -- the next field has room
-turn : (c : tie.After-count invariant-loop decreases-loop)
-    → (1 ≤ c.count.result)
-    × (c.before.before.before.loop.at % 8 + c.count.result ≤ 64)
-    × (c.before.before.before.loop.at + c.count.result ≤ 8 * length c.before.before.before.before.before.before.before.args.s.now)
-    × (c.before.before.before.loop.at + c.count.result ≤ 8000)
-    × (c.before.before.before.before.before.before.before.args.spare ≡ true
-    → c.before.before.before.loop.at / 8 + 8 ≤ length c.before.before.before.before.before.before.before.args.s.now)
+turn : (c : tie.After-count-w invariant-loop decreases-loop)
+    → (1 ≤ c.count-w.result)
+    × (c.loop-i.at % 8 + c.count-w.result ≤ 64)
+    × (c.loop-i.at + c.count-w.result ≤ 8 * length c.args.s.now)
+    × (c.loop-i.at + c.count-w.result ≤ 8000)
+    × (c.args.spare ≡ true
+    → c.loop-i.at / 8 + 8 ≤ length c.args.s.now)
 turn c =
     let l = c.before.before.before in
     let z = l.before.before.before.before in
     let ws = z.args.ws.now in
-    let h : l.loop.i < length ws = omega arith in
-    let r = taken_room l.loop.invariant.2 h c.count.ensures in
-    let m = sized_few ws z.requires.0 in
-    let n = sized_whole ws z.requires.0 in
-    (r.0, r.1, omega arith, omega arith, λ e. let k = z.requires.1.2 e in omega (arith, k))
+    let h : l.loop-i.i < length ws = omega arith in
+    let r = taken_room l.loop-i.invariant.2 h c.count-w.ensures in
+    let m = sized_few ws z.requires.ws_value in
+    let n = sized_whole ws z.requires.ws_value in
+    (r.0, r.1, omega arith, omega arith, λ e. let k = z.requires.ws_in_bounds.2 e in omega (arith, k))
 
-loop-holds : tie.Need-loop-init invariant-loop decreases-loop
-loop-holds c = (omega arith, refl, taken_none (omega arith) c.before.before.before.requires.0)
+loop-holds : tie.Need-loop-i-init invariant-loop decreases-loop
+loop-holds c = (omega arith, refl, taken_none (omega arith) c.requires.ws_value)
 
-shared-slice-read-count : tie.Need-shared-slice-read-count invariant-loop decreases-loop
+shared-slice-read-count : tie.Need-bounds-ws-i invariant-loop decreases-loop
 shared-slice-read-count c = search rules
 
-count-requires : tie.Need-count-requires invariant-loop decreases-loop
+count-requires : tie.Need-count-w-requires invariant-loop decreases-loop
 count-requires c κs = search rules
 
-one-field-requires : tie.Need-one-field-requires invariant-loop decreases-loop
+one-field-requires : tie.Need-one_field-v-requires invariant-loop decreases-loop
 one-field-requires c κs = let t = turn c in (t.0, t.1, t.2, t.4)
 
-mul-vs : tie.Need-overflow-mul-vs invariant-loop decreases-loop
+mul-vs : tie.Need-offset_bounds-vs-i invariant-loop decreases-loop
 mul-vs c = search rules
 
-slice-write-vs : tie.Need-slice-write-vs invariant-loop decreases-loop
+slice-write-vs : tie.Need-bounds-vs-i invariant-loop decreases-loop
 slice-write-vs c = search rules
 
-add_at : tie.Need-overflow-add-at invariant-loop decreases-loop
+add_at : tie.Need-overflow_add-at invariant-loop decreases-loop
 add_at c = let t = turn c.before in omega arith
 
-add-i : tie.Need-overflow-add-i invariant-loop decreases-loop
+add-i : tie.Need-overflow_add-i invariant-loop decreases-loop
 add-i c = search rules
 
-loop-less : tie.Need-loop-smaller invariant-loop decreases-loop
+loop-less : tie.Need-loop-i-smaller invariant-loop decreases-loop
 loop-less c = search rules
 
-loop-again : tie.Need-loop-preserved invariant-loop decreases-loop
+loop-again : tie.Need-loop-i-preserved invariant-loop decreases-loop
 loop-again c =
     let l = c.before.before.before.before in
     let z = l.before.before.before.before in (
       omega arith,
-      simp length-set l.loop.invariant.1,
-      taken_more l.loop.invariant.2 z.requires.0 z.requires.1.0 (λ i. (l.before.before.before.shared-slice-known.given i).fits)
-          (omega arith) (omega arith) c.before.count.ensures c.one_field.ensures,
+      simp length-set l.loop-i.invariant.1,
+      taken_more l.loop-i.invariant.2 z.requires.ws_value z.requires.ws_in_bounds.0 (λ i. (l.shared_slice_known-1.given i).fits)
+          (omega arith) (omega arith) c.count-w.ensures c.one_field-v.ensures,
     )
 
-same_length : tie.Need-same-length invariant-loop decreases-loop
+same_length : tie.Need-shape_of-vs invariant-loop decreases-loop
 same_length c = search rules
 
 returns : tie.Need-returns invariant-loop decreases-loop
-returns c = taken_all c.before.loop.invariant.2 (omega arith) (omega arith)
+returns c = taken_all c.loop-i.invariant.2 (omega arith) (omega arith)
 
 pub take_fields_spec : {M : Type 1} → statement M
 take_fields_spec =
     tie.close
-    (tie.spec
-    invariant-loop
-    decreases-loop
-    loop-holds
-    shared-slice-read-count
-    count-requires
-    one-field-requires
-    mul-vs
-    slice-write-vs
-    add_at
-    add-i
-    loop-less
-    loop-again
-    same_length
-    returns)
+    (tie.spec invariant-loop decreases-loop loop-holds shared-slice-read-count count-requires one-field-requires mul-vs slice-write-vs add_at add-i loop-less loop-again same_length returns)

@@ -46,7 +46,7 @@ sent_by c ps e =
     ∙ (λ i. unless_barred (first_bar r ps) (unless_walls two (unless_loud (shares_by ws s r ps i))))
     ∙ sym (ap (pair_over (λ p i. share_of ws s p r i) (two_walls ws r) r) e)
 
-enum_told : tie.Need-enum-told
+enum_told : tie.Need-enum_told-1
 enum_told c = search rules
 
 alone-requires : tie.Need-alone-requires
@@ -55,34 +55,28 @@ alone-requires c κs =
     let f = piece s in
     ((s.requires.0, sounding s, s.requires.3, lengthened s, s.requires.4), (f.x, f.y, f.some, f.short))
 
-enum-known-course : tie.Need-enum-known-course
+enum-known-course : tie.Need-enum_known-course
 enum-known-course c = search rules
 
 along-requires : tie.Need-along-requires
 along-requires c κs =
     let s = c.before.before.before.before.before.before in
-    let e = c.before.before.before.course.given.1 in
+    let e = c.course-1.given.1 in
     let f = subst FitCourse e (source s).course in
     ((s.requires.0, sounding s, s.requires.3, s.requires.4), (f.mapped, whole s ∙ ap whole_of e, f.some, f.short))
 
-returns : tie.Need-returns
+returns : tie.Need-returns-in-Uncut
 returns c =
     let s = c.before.before.before.before in
-    let e = c.before.enum_told.given.1 in
+    let e = c.enum_told-1.given.1 in
     c.alone.ensures ∙ sent_by s (s.args.sent.whole ∷ []) (ap (pieces_for s.args.r) e ∙ sym (ap (λ (p : Piece). p ∷ []) (whole s ∙ ap whole_of e)))
 
-returns-2 : tie.Need-returns-2
+returns-2 : tie.Need-returns-in-Between
 returns-2 c =
     let s = c.before.before.before.before.before.before.before in
-    c.along.ensures ∙ sent_by s _ (ap (pieces_for s.args.r) c.before.before.before.before.course.given.1)
+    c.along.ensures ∙ sent_by s _ (ap (pieces_for s.args.r) c.course-1.given.1)
 
 pub pair_spec : {M : Type 1} → statement M
 pair_spec =
     tie.close
-    (tie.spec
-    enum_told
-    alone-requires
-    enum-known-course
-    along-requires
-    returns
-    returns-2)
+    (tie.spec enum_told alone-requires enum-known-course along-requires returns returns-2)

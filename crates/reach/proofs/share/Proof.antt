@@ -15,15 +15,15 @@ use Rattle.road.proofs.Pairs.{weather_most}
 use Rattle.reach.proofs.share.Statement.{statement}
 use Rattle.reach.proofs.share.Tie as tie
 
-returns : tie.Need-returns
+returns : tie.Need-returns-then-not-v
 returns c =
-    let a = c.before.before.args in
-    sym (part_silent a.v (a.way ⊕ weather_term a.c a.h a.near) (not-true _ c.if1.true))
+    let a = c.args in
+    sym (part_silent a.v (a.way ⊕ weather_term a.c a.h a.near) (not-true _ c.if-not-v.true))
 
-add-up : tie.Need-overflow-add-up
+add-up : tie.Need-overflow_add-up
 add-up c = search rules
 
-add-down : tie.Need-overflow-add-down
+add-down : tie.Need-overflow_add-down
 add-down c = search rules
 
 weather-requires : tie.Need-weather-requires
@@ -47,7 +47,7 @@ module _ (c : tie.After-weather) where
   down = v.level.down + start.args.way.down + c.weather.result
 
   sounds : v.sounds ≡ true
-  sounds = not-false _ c.before.before.before.before.before.before.if1.false
+  sounds = not-false _ c.if-not-v.false
 
   up_is : up ≡ v.level.up + t.up
   unfolding weather_term
@@ -62,23 +62,25 @@ down_most c =
     let a = (start c).args in
     omega (arith, (start c).requires.0.1.down, (start c).requires.0.3, (start c).requires.1.0, c.weather.ensures, weather_most a.c a.h a.near)
 
-add-down-2 : tie.Need-overflow-add-down-2
+add-down-2 : tie.Need-overflow_add-down-2
 add-down-2 c = omega (arith, down_most c)
 
-add-if2 : tie.Need-overflow-add-if2
+add-if2 : tie.Need-overflow_add-down-3
 add-if2 c = omega (arith, down_most c)
 
-returns-2 : tie.Need-returns-2
+returns-2 : tie.Need-returns-then-down-up
 returns-2 c = let w = c.before in sym (part_loud (v w) (t w) (up w) (down w) (sounds w) (up_is w) (down_is w) (omega arith))
 
-energy-at-requires : tie.Need-energy-at-requires
+energy-at-requires : tie.Need-energy_at-energy-requires
 energy-at-requires c κs = search rules
 
-returns-3 : tie.Need-returns-3
+returns-3 : tie.Need-returns
 returns-3 c =
     let w = c.before.before in
-    ap (λ (n : ℕ). record { loud = false; energy = n }) c.energy_at_lem.ensures
-    ∙ sym (part_heard (v w) (t w) (up w) (down w) (sounds w) (up_is w) (down_is w) (omega (arith, c.before.if2.false)))
+    ap (λ (n : ℕ). record { loud = false; energy = n }) c.energy_at-energy.ensures
+    ∙ sym (part_heard (v w) (t w) (up w) (down w) (sounds w) (up_is w) (down_is w) (omega (arith, c.if-down-up.false)))
 
 pub share_spec : {M : Type 1} → statement M
-share_spec = tie.close (tie.spec returns add-up add-down weather-requires add-down-2 add-if2 returns-2 energy-at-requires returns-3)
+share_spec =
+    tie.close
+    (tie.spec returns add-up add-down weather-requires add-down-2 add-if2 returns-2 energy-at-requires returns-3)

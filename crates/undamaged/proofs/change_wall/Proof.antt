@@ -32,89 +32,74 @@ abbrev after : tie.Start → List (Option Held) → Book
 after c rs = let b = book_of c.args.store.now in book b.sources rs (set b.walls c.args.k (held c))
 
 -- the round was gone among the walls of the book
-rounded : (g : tie.After-go-afresh) → let s = g.before.before.before.before.before.before.before.before in Rounded (made s) (book_of s.args.store.now).receivers g.go-afresh.result
+rounded : (g : tie.After-go_afresh-renewed) → let s = g.before.before.before.before.before.before.before.before in Rounded (made s) (book_of s.args.store.now).receivers g.go_afresh-renewed.result
 rounded g =
     let s = g.before.before.before.before.before.before.before.before in
-    subst (λ (ws : List Wall). Rounded (renewing (pair_of ws) (present (book_of s.args.store.now).sources)) (book_of s.args.store.now).receivers g.go-afresh.result) g.before.before.before.before.changed.ensures.walls g.go-afresh.ensures
+    subst (λ (ws : List Wall). Rounded (renewing (pair_of ws) (present (book_of s.args.store.now).sources)) (book_of s.args.store.now).receivers g.go_afresh-renewed.result) g.changed-n.ensures.walls g.go_afresh-renewed.ensures
 
-slice-aggregate-changed : tie.Need-slice-aggregate-changed
+slice-aggregate-changed : tie.Need-slice_bounds-changed-end
 slice-aggregate-changed c = search rules
 
-changed-requires : tie.Need-changed-requires
+changed-requires : tie.Need-changed-n-requires
 changed-requires c κs = search rules
 
-array-share-prefix-numbers : tie.Need-array-share-prefix-numbers
+array-share-prefix-numbers : tie.Need-slice_bounds-numbers-end
 array-share-prefix-numbers c = search rules
 
-slice-aggregate-go-afresh : tie.Need-slice-aggregate-go-afresh
-slice-aggregate-go-afresh c = sym (length-take-le _ _ c.before.before.changed.ensures.part)
+slice-aggregate-go-afresh : tie.Need-slice_bounds-go_afresh-end
+slice-aggregate-go-afresh c = sym (length-take-le _ _ c.changed-n.ensures.part)
 
-go-afresh-requires : tie.Need-go-afresh-requires
+go-afresh-requires : tie.Need-go_afresh-renewed-requires
 go-afresh-requires c κs = search rules
 
-enum-known-stop : tie.Need-enum-known-stop
+enum-known-stop : tie.Need-enum_known-stop
 enum-known-stop c = search rules
 
-enum_told : tie.Need-enum-told
+enum_told : tie.Need-enum_told-1
 enum_told c = search rules
 
-same_length : tie.Need-same-length
+same_length : tie.Need-shape_of-store-then-renewed
 same_length c = search rules
 
-returns : tie.Need-returns
+returns : tie.Need-returns-then-renewed
 returns c =
     let g = c.before.before.before in
     let start = g.before.before.before.before.before.before.before.before in
-    told_late start.args.store.now (made start) (after start) g.go-afresh.result (rounded g) c.before.enum_told.given.1 c.if1.true
+    told_late start.args.store.now (made start) (after start) g.go_afresh-renewed.result (rounded g) c.enum_told-1.given.1 c.if-renewed.true
 
-write-seats-requires : tie.Need-write-seats-requires
+write-seats-requires : tie.Need-write_seats-requires
 write-seats-requires c κs =
     let g = c.before.before.before.before.before in
     let start = g.before.before.before.before.before.before.before.before in
     let s = start.args.store.now in
-    (start.requires.1, change_stand (made start) (book_of s) g.go-afresh.result (rounded g) c.before.before.before.enum_told.given.1 (renewing_sound _ (book_of s).sources ((sound_book s start.requires.1).source_slots_lem ∙ sym many_sources)) (sound_book s start.requires.1) c.before.before.if1.false)
+    (start.requires.1, change_stand (made start) (book_of s) g.go_afresh-renewed.result (rounded g) c.enum_told-1.given.1 (renewing_sound _ (book_of s).sources ((sound_book s start.requires.1).source_slots_lem ∙ sym many_sources)) (sound_book s start.requires.1) c.if-renewed.false)
 
-write-wall-requires : tie.Need-write-wall-requires
+write-wall-requires : tie.Need-write_wall-requires
 write-wall-requires c κs = search rules
 
-same-length-2 : tie.Need-same-length-2
+same-length-2 : tie.Need-shape_of-store-in-At
 same-length-2 c = search rules
 
-returns-2 : tie.Need-returns-2
+returns-2 : tie.Need-returns-in-At
 returns-2 c =
     let g = c.before.before.before in
     let start = g.before.before.before.before.before.before.before.before in
-    told_barred start.args.store.now (made start) (after start) g.go-afresh.result (rounded g) _ c.before.stop.given.1
+    told_barred start.args.store.now (made start) (after start) g.go_afresh-renewed.result (rounded g) _ c.stop-1.given.1
 
-same-length-3 : tie.Need-same-length-3
+same-length-3 : tie.Need-shape_of-store-else-renewed
 same-length-3 c = search rules
 
-returns-3 : tie.Need-returns-3
+returns-3 : tie.Need-returns-else-renewed
 returns-3 c =
     let p = c.before.before in
     let w = p.before.before.before.before in
     let g = w.before.before.before.before.before.before in
     let start = g.before.before.before.before.before.before.before.before in
     let s = start.args.store.now in
-    told_done s (made start) (after start) g.go-afresh.result (rounded g) w.before.before.before.before.enum_told.given.1 _ w.before.before.before.if1.false
-    (p.write-wall.ensures ∙ ap (λ (b : Book). book_bytes (book b.sources b.receivers (set b.walls start.args.k (held start)))) w.write-seats.ensures.1)
+    told_done s (made start) (after start) g.go_afresh-renewed.result (rounded g) w.enum_told-1.given.1 _ w.if-renewed.false
+    (p.write_wall.ensures ∙ ap (λ (b : Book). book_bytes (book b.sources b.receivers (set b.walls start.args.k (held start)))) w.write_seats.ensures.1)
 
 pub change_wall_spec : {M : Type 1} → statement M
 change_wall_spec =
     tie.close
-    (tie.spec
-    slice-aggregate-changed
-    changed-requires
-    array-share-prefix-numbers
-    slice-aggregate-go-afresh
-    go-afresh-requires
-    enum-known-stop
-    enum_told
-    same_length
-    returns
-    write-seats-requires
-    write-wall-requires
-    same-length-2
-    returns-2
-    same-length-3
-    returns-3)
+    (tie.spec slice-aggregate-changed changed-requires array-share-prefix-numbers slice-aggregate-go-afresh go-afresh-requires enum-known-stop enum_told same_length returns write-seats-requires write-wall-requires same-length-2 returns-2 same-length-3 returns-3)

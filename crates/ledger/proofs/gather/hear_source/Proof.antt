@@ -18,41 +18,41 @@ use Rattle.ledger.proofs.gather.hear_source.Statement.{statement}
 use Rattle.ledger.proofs.gather.hear_source.Tie as tie
 
 marked-requires : tie.Need-marked-requires
-marked-requires c κs = let p = c.before.before.requires in (p.2, (undamaged c.before.before.args.store.now p.1).0)
+marked-requires c κs = let p = c.requires in (p.2, (undamaged c.args.store.now p.1).0)
 
-returns : tie.Need-returns
+returns : tie.Need-returns-then-not-marked
 returns c =
     let start = c.before.before.before.before in
     let s = start.args.store.now in
     let i = start.args.i in
-    let free = source_slot_free s i start.requires.1 start.requires.2 (source_slot_of (source_at i s)) refl (sym c.before.marked.ensures ∙ not-true _ c.if1.true) in
+    let free = source_slot_free s i start.requires.1 start.requires.2 (source_slot_of (source_at i s)) refl (sym c.marked.ensures ∙ not-true _ c.if-not-marked.true) in
     ap (offer_of (pair_of (walls_of start.args.walls.now)) start.args.r) (sym free)
 
-source-slot-requires : tie.Need-source-slot-requires
+source-slot-requires : tie.Need-source_slot-requires
 source-slot-requires c κs = let start = c.before.before.before.before in (start.requires.2, (undamaged start.args.store.now start.requires.1).0)
 
 -- the slot is in use
-in_use : (c : tie.After-source-slot) → c.source-slot.result.used ≡ true
-in_use c = ap (λ (t : SourceSlot). t.used) c.source-slot.ensures ∙ sym c.before.before.marked.ensures ∙ not-false _ c.before.if1.false
+in_use : (c : tie.After-source_slot) → c.source_slot.result.used ≡ true
+in_use c = ap (λ (t : SourceSlot). t.used) c.source_slot.ensures ∙ sym c.marked.ensures ∙ not-false _ c.if-not-marked.false
 
-stands : (c : tie.After-source-slot) → SourceStands c.source-slot.result.source
+stands : (c : tie.After-source_slot) → SourceStands c.source_slot.result.source
 stands c =
     let start = c.before.before.before.before.before in
-    source_slot_stands start.args.store.now start.args.i start.requires.1 start.requires.2 c.source-slot.result c.source-slot.ensures (in_use c)
+    source_slot_stands start.args.store.now start.args.i start.requires.1 start.requires.2 c.source_slot.result c.source_slot.ensures (in_use c)
 
-send-requires : tie.Need-send-requires
-send-requires c κs = let t = c.before in (t.before.before.before.before.before.requires.0, (stands t).0)
+send-requires : tie.Need-send-sent-requires
+send-requires c κs = let t = c.before in (t.requires.0, (stands t).0)
 
 pair-requires : tie.Need-pair-requires
 pair-requires c κs =
     let t = c.before.before in
     let start = t.before.before.before.before.before in
-    (start.requires.0, (stands t).0, c.send.ensures, start.requires.3, start.requires.4)
+    (start.requires.0, (stands t).0, c.send-sent.ensures, start.requires.3, start.requires.4)
 
-enum-known-shares : tie.Need-enum-known-shares
+enum-known-shares : tie.Need-enum_known-shares
 enum-known-shares c = search rules
 
-enum-known-bar : tie.Need-enum-known-bar
+enum-known-bar : tie.Need-enum_known-bar
 enum-known-bar c = search rules
 
 -- an offer follows from the pair
@@ -61,14 +61,16 @@ offered : (c : tie.After-pair) (q : Pair) → c.pair.result ≡ q → let start 
 offered c q e =
     let t = c.before.before.before in
     let start = t.before.before.before.before.before in
-    let used = source_slot_used start.args.store.now start.args.i start.requires.1 start.requires.2 t.source-slot.result t.source-slot.ensures (in_use t) in
+    let used = source_slot_used start.args.store.now start.args.i start.requires.1 start.requires.2 t.source_slot.result t.source_slot.ensures (in_use t) in
     ap offer_by (sym e ∙ c.pair.ensures) ∙ ap (offer_of (pair_of (walls_of start.args.walls.now)) start.args.r) (sym used)
 
-returns-2 : tie.Need-returns-2
-returns-2 c = offered c.before.before.before _ c.before.shares.given.1
+returns-2 : tie.Need-returns-in-Heard
+returns-2 c = offered c.before.before.before _ c.shares-1.given.1
 
-returns-3 : tie.Need-returns-3
-returns-3 c = offered c.before.before.before _ c.before.bar.given.1
+returns-3 : tie.Need-returns-in-Barred
+returns-3 c = offered c.before.before.before _ c.bar-1.given.1
 
 pub hear_source_spec : {M : Type 1} → statement M
-hear_source_spec = tie.close (tie.spec marked-requires returns source-slot-requires send-requires pair-requires enum-known-shares enum-known-bar returns-2 returns-3)
+hear_source_spec =
+    tie.close
+    (tie.spec marked-requires returns source-slot-requires send-requires pair-requires enum-known-shares enum-known-bar returns-2 returns-3)

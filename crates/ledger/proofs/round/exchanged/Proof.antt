@@ -18,17 +18,17 @@ use Rattle.ledger.proofs.round.exchanged.Tie as tie
 abbrev told : Account → Shares → Bool → Turn
 told rest more fits = cond fits (Moved (plus_of rest more)) Late
 
-enum_told : tie.Need-enum-told
+enum_told : tie.Need-enum_told-1
 enum_told c = search rules
 
-enum-known-goes : tie.Need-enum-known-goes
+enum-known-goes : tie.Need-enum_known-goes
 enum-known-goes c = search rules
 
 covers-requires : tie.Need-covers-requires
 covers-requires c κs = search rules
 
-minus-requires : tie.Need-minus-requires
-minus-requires c κs = sym c.before.covers.ensures ∙ not-false _ c.if1.false
+minus-requires : tie.Need-minus-rest-requires
+minus-requires c κs = sym c.covers.ensures ∙ not-false _ c.if-not-covers.false
 
 -- the account, what goes, what comes, and that the pair is heard
 module _ (v : tie.After-covers) where
@@ -36,7 +36,7 @@ module _ (v : tie.After-covers) where
   args = v.before.before.before.before
 
   abbrev less : Shares
-  less = v.before.before.goes.given.0.0
+  less = v.goes-1.given.0.0
 
   abbrev rest : Account
   rest = minus_of args.args.sums less
@@ -44,7 +44,7 @@ module _ (v : tie.After-covers) where
   by_tests : (fits : Bool) → covers args.args.sums less && room rest args.args.more ≡ fits → told rest args.args.more fits ≡ exchanged_by args.args.goes args.args.more args.args.sums
   by_tests fits e =
       ap (told rest args.args.more) (sym e)
-      ∙ sym (ap (λ (q : Pair). exchanged_by q args.args.more args.args.sums) v.before.before.goes.given.1)
+      ∙ sym (ap (λ (q : Pair). exchanged_by q args.args.more args.args.sums) v.goes-1.given.1)
 
   short : v.covers.result ≡ false → covers args.args.sums less && room rest args.args.more ≡ false
   short f = ap (λ (b : Bool). b && room rest args.args.more) (sym v.covers.ensures ∙ f)
@@ -56,41 +56,31 @@ module _ (r : tie.After-room) where
 
   tested : (b : Bool) → r.room.result ≡ b → covers (args off).args.sums (less off) && room (rest off) (args off).args.more ≡ b
   tested b e =
-      ap₂ ◌&&◌ (sym off.covers.ensures ∙ not-false _ r.before.before.if1.left)
-      (ap (λ (a : Account). room a (args off).args.more) (sym r.before.minus.ensures) ∙ sym r.room.ensures ∙ e)
+      ap₂ ◌&&◌ (sym off.covers.ensures ∙ not-false _ r.if-not-covers.left)
+      (ap (λ (a : Account). room a (args off).args.more) (sym r.minus-rest.ensures) ∙ sym r.room.ensures ∙ e)
 
-returns : tie.Need-returns
-returns c = by_tests c.before false (short c.before (not-true _ c.if1.true))
+returns : tie.Need-returns-then-not-covers
+returns c = by_tests c.before false (short c.before (not-true _ c.if-not-covers.true))
 
 room-requires : tie.Need-room-requires
 room-requires c κs = search rules
 
-returns-2 : tie.Need-returns-2
-returns-2 c = by_tests (off c.before) false (tested c.before false (not-true _ c.if2.true))
+returns-2 : tie.Need-returns-then-not-room
+returns-2 c = by_tests (off c.before) false (tested c.before false (not-true _ c.if-not-room.true))
 
-plus-requires : tie.Need-plus-requires
-plus-requires c κs = sym c.before.room.ensures ∙ not-false _ c.if2.false
+plus-requires : tie.Need-plus-next-requires
+plus-requires c κs = sym c.room.ensures ∙ not-false _ c.if-not-room.false
 
-returns-3 : tie.Need-returns-3
+returns-3 : tie.Need-returns-in-Barred
 returns-3 c = search rules
 
-returns-4 : tie.Need-returns-4
+returns-4 : tie.Need-returns-else-not-room
 returns-4 c =
     let r = c.before.before in
-    ap Moved (c.plus.ensures ∙ ap (λ (a : Account). plus_of a (args (off r)).args.more) r.before.minus.ensures)
-    ∙ by_tests (off r) true (tested r true (not-false _ c.before.if2.false))
+    ap Moved (c.plus-next.ensures ∙ ap (λ (a : Account). plus_of a (args (off r)).args.more) r.minus-rest.ensures)
+    ∙ by_tests (off r) true (tested r true (not-false _ c.if-not-room.false))
 
 pub exchanged_spec : {M : Type 1} → statement M
 exchanged_spec =
     tie.close
-    (tie.spec
-    enum_told
-    enum-known-goes
-    covers-requires
-    returns
-    minus-requires
-    room-requires
-    returns-2
-    plus-requires
-    returns-3
-    returns-4)
+    (tie.spec enum_told enum-known-goes covers-requires returns minus-requires room-requires returns-2 plus-requires returns-3 returns-4)

@@ -12,16 +12,18 @@ abbrev goes : tie.Start → Bool → Sender
 goes start used = cond used (sender start.args.slot.source) (nobody start.args.comes)
 
 sends-requires : tie.Need-sends-requires
-sends-requires c κs = let p = c.before.requires in (p.0, p.1 c.if1.true)
+sends-requires c κs = let p = c.requires in (p.0, p.1 c.if-slot.true)
 
-returns : tie.Need-returns
-returns c = c.sends.ensures ∙ ap (goes c.before.before) (sym c.before.if1.true)
+returns : tie.Need-returns-then-slot
+returns c = c.sends.ensures ∙ ap (goes c.before.before) (sym c.if-slot.true)
 
 nobody-requires : tie.Need-nobody-requires
 nobody-requires c κs = search rules
 
-returns-2 : tie.Need-returns-2
-returns-2 c = c.nobody.ensures ∙ ap (goes c.before.before) (sym c.before.if1.false)
+returns-2 : tie.Need-returns
+returns-2 c = c.nobody.ensures ∙ ap (goes c.before.before) (sym c.if-slot.false)
 
 pub goes_from_spec : {M : Type 1} → statement M
-goes_from_spec = tie.close (tie.spec sends-requires returns nobody-requires returns-2)
+goes_from_spec =
+    tie.close
+    (tie.spec sends-requires returns nobody-requires returns-2)

@@ -15,15 +15,17 @@ pair_if start there = let a = start.args in pair_by (pair_of (walls_of a.walls.n
 
 pair-requires : tie.Need-pair-requires
 pair-requires c κs =
-    let p = c.before.before.requires in
-    let fine = p.1 c.if1.true in
+    let p = c.requires in
+    let fine = p.1 c.if-from.true in
     (p.0, fine.0, fine.1, p.2, p.3)
 
-returns : tie.Need-returns
-returns c = c.pair.ensures ∙ ap (pair_if c.before.before.before) (sym c.before.if1.true)
+returns : tie.Need-returns-then-from
+returns c = c.pair.ensures ∙ ap (pair_if c.before.before.before) (sym c.if-from.true)
 
-returns-2 : tie.Need-returns-2
-returns-2 c = ap (pair_if c.before.before) (sym c.if1.false)
+returns-2 : tie.Need-returns
+returns-2 c = ap (pair_if c.before.before) (sym c.if-from.false)
 
 pub heard_at_spec : {M : Type 1} → statement M
-heard_at_spec = tie.close (tie.spec pair-requires returns returns-2)
+heard_at_spec =
+    tie.close
+    (tie.spec pair-requires returns returns-2)

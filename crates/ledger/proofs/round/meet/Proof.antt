@@ -31,16 +31,16 @@ module _ (pair : Pairing) (goes comes : Option Source) (x : Held) where
   heard more e (Heard less) f = rw (e, sym f, turn_of)
   heard more e (Bars b) f = rw (e, sym f, turn_of)
 
-heard-at-requires : tie.Need-heard-at-requires
+heard-at-requires : tie.Need-heard_at-requires
 heard-at-requires c κs = search rules
 
-enum-known-bar : tie.Need-enum-known-bar
+enum-known-bar : tie.Need-enum_known-bar
 enum-known-bar c = search rules
 
-enum-known-more : tie.Need-enum-known-more
+enum-known-more : tie.Need-enum_known-more
 enum-known-more c = search rules
 
-heard-at-requires-2 : tie.Need-heard-at-requires-2
+heard-at-requires-2 : tie.Need-heard_at-p-requires
 heard-at-requires-2 c κs = search rules
 
 exchanged-requires : tie.Need-exchanged-requires
@@ -50,27 +50,20 @@ exchanged-requires c κs = search rules
 abbrev among : tie.Start → Pairing
 among start = pair_of (walls_of start.args.walls.now)
 
-returns : tie.Need-returns
+returns : tie.Need-returns-in-Barred
 returns c =
     let t = c.before.before.before in
     let start = t.before.before.before.before in
-    barred (among start) (source_of start.args.goes) (source_of start.args.comes) start.args.x _ (sym t.heard-at.ensures ∙ c.before.bar.given.1)
+    barred (among start) (source_of start.args.goes) (source_of start.args.comes) start.args.x _ (sym t.heard_at.ensures ∙ c.bar-1.given.1)
 
-returns-2 : tie.Need-returns-2
+returns-2 : tie.Need-returns-in-Heard
 returns-2 c =
     let t = c.before.before.before.before.before in
     let start = t.before.before.before.before in
     c.exchanged.ensures
-    ∙ heard (among start) (source_of start.args.goes) (source_of start.args.comes) start.args.x _ (sym t.heard-at.ensures ∙ c.before.before.before.more.given.1) _ c.before.heard-at2.ensures
+    ∙ heard (among start) (source_of start.args.goes) (source_of start.args.comes) start.args.x _ (sym t.heard_at.ensures ∙ c.more-1.given.1) _ c.heard_at-p.ensures
 
 pub meet_spec : {M : Type 1} → statement M
 meet_spec =
     tie.close
-    (tie.spec
-    heard-at-requires
-    enum-known-bar
-    enum-known-more
-    heard-at-requires-2
-    exchanged-requires
-    returns
-    returns-2)
+    (tie.spec heard-at-requires enum-known-bar enum-known-more heard-at-requires-2 exchanged-requires returns returns-2)

@@ -10,40 +10,40 @@ use Rattle.screen.proofs.Heights.{root_most}
 use Rattle.screen.proofs.section.both.Statement.{statement}
 use Rattle.screen.proofs.section.both.Tie as tie
 
-last-lines-requires : tie.Need-last-lines-requires
+last-lines-requires : tie.Need-last_lines-lines-requires
 last-lines-requires c κs = search rules
 
-sum : (c : tie.After-last-lines) → c.last-lines.result.near.root + c.last-lines.result.far.root ≡ root_of c.before.before.args.x + root_of c.before.before.args.y
+sum : (c : tie.After-last_lines-lines) → c.last_lines-lines.result.near.root + c.last_lines-lines.result.far.root ≡ root_of c.args.x + root_of c.args.y
 sum c =
     let s = c.before.before in
     ap₂ ◌+◌
-    (ap (λ (l : Lines). l.near.root) c.last-lines.ensures ∙ line_root_is s.args.x)
-    (ap (λ (l : Lines). l.far.root) c.last-lines.ensures ∙ line_root_is s.args.y)
+    (ap (λ (l : Lines). l.near.root) c.last_lines-lines.ensures ∙ line_root_is s.args.x)
+    (ap (λ (l : Lines). l.far.root) c.last_lines-lines.ensures ∙ line_root_is s.args.y)
 
-add-result : tie.Need-overflow-add-result
+add-result : tie.Need-overflow_add-result
 add-result c =
     let s = c.before.before.before in
     omega (arith, sum c.before, root_most s.args.x 4000000 s.requires.0, root_most s.args.y 4000000 s.requires.1)
 
-returns : tie.Need-returns
+returns : tie.Need-returns-then-x-y
 returns c = sum c.before
 
-last-lines-requires-2 : tie.Need-last-lines-requires-2
+last-lines-requires-2 : tie.Need-last_lines-lines-requires-2
 last-lines-requires-2 c κs = search rules
 
-sum_2 : (c : tie.After-last-lines2) → c.last-lines2.result.far.root + c.last-lines2.result.near.root ≡ root_of c.before.before.args.x + root_of c.before.before.args.y
+sum_2 : (c : tie.After-last_lines-lines-2) → c.last_lines-lines-2.result.far.root + c.last_lines-lines-2.result.near.root ≡ root_of c.args.x + root_of c.args.y
 sum_2 c =
     let s = c.before.before in
     ap₂ ◌+◌
-    (ap (λ (l : Lines). l.far.root) c.last-lines2.ensures ∙ line_root_is s.args.x)
-    (ap (λ (l : Lines). l.near.root) c.last-lines2.ensures ∙ line_root_is s.args.y)
+    (ap (λ (l : Lines). l.far.root) c.last_lines-lines-2.ensures ∙ line_root_is s.args.x)
+    (ap (λ (l : Lines). l.near.root) c.last_lines-lines-2.ensures ∙ line_root_is s.args.y)
 
-add-result-2 : tie.Need-overflow-add-result-2
+add-result-2 : tie.Need-overflow_add-result-2
 add-result-2 c =
     let s = c.before.before.before in
     omega (arith, sum_2 c.before, root_most s.args.x 4000000 s.requires.0, root_most s.args.y 4000000 s.requires.1)
 
-returns-2 : tie.Need-returns-2
+returns-2 : tie.Need-returns
 returns-2 c = sum_2 c.before
 
 pub both_spec : {M : Type 1} → statement M

@@ -12,37 +12,37 @@ use Rattle.screen.proofs.Heights.{root_most, part_most}
 use Rattle.screen.proofs.section.cut.Statement.{statement}
 use Rattle.screen.proofs.section.cut.Tie as tie
 
-mul-last-lines : tie.Need-overflow-mul-last-lines
+mul-last-lines : tie.Need-overflow_mul-q0
 mul-last-lines c = search rules
 
-mul-last-lines-2 : tie.Need-overflow-mul-last-lines-2
+mul-last-lines-2 : tie.Need-overflow_mul-q
 mul-last-lines-2 c = search rules
 
-last-lines-requires : tie.Need-last-lines-requires
+last-lines-requires : tie.Need-last_lines-lines-requires
 last-lines-requires c κs = search rules
 
-plan_is : (c : tie.After-last-lines) → c.last-lines.result.near.root ≡ root_of (100 * c.before.args.q0)
-plan_is c = ap (λ (l : Lines). l.near.root) c.last-lines.ensures ∙ line_root_is (100 * c.before.args.q0)
+plan_is : (c : tie.After-last_lines-lines) → c.last_lines-lines.result.near.root ≡ root_of (100 * c.args.q0)
+plan_is c = ap (λ (l : Lines). l.near.root) c.last_lines-lines.ensures ∙ line_root_is (100 * c.args.q0)
 
-space_is : (c : tie.After-last-lines) → c.last-lines.result.far.root ≡ root_of (100 * c.before.args.q)
-space_is c = ap (λ (l : Lines). l.far.root) c.last-lines.ensures ∙ line_root_is (100 * c.before.args.q)
+space_is : (c : tie.After-last_lines-lines) → c.last_lines-lines.result.far.root ≡ root_of (100 * c.args.q)
+space_is c = ap (λ (l : Lines). l.far.root) c.last_lines-lines.ensures ∙ line_root_is (100 * c.args.q)
 
-mul-a : tie.Need-overflow-mul-a
+mul-a : tie.Need-overflow_mul-a
 mul-a c =
     let s = c.before.before in
-    let m : c.before.last-lines.result.near.root ≤ 2000000 = rw (plan_is c.before) (root_most (100 * s.args.q0) 2000000 (omega (arith, s.requires.0.rises, s.requires.0.near))) in
-    omega (arith, times s.args.f.num c.before.last-lines.result.near.root 6710886400000 2000000 s.requires.2 m)
+    let m : c.last_lines-lines.result.near.root ≤ 2000000 = rw (plan_is c.before) (root_most (100 * s.args.q0) 2000000 (omega (arith, s.requires.0.rises, s.requires.0.near))) in
+    omega (arith, times s.args.f.num c.last_lines-lines.result.near.root 6710886400000 2000000 s.requires.2 m)
 
-div-a : tie.Need-nonzero-div-a
+div-a : tie.Need-nonzero_div-a
 div-a c = search rules
 
-sub-b : tie.Need-overflow-sub-b
-sub-b c = let s = c.before.before.before in part_most s.args.f c.before.before.last-lines.result.near.root s.requires.1
+sub-b : tie.Need-overflow_sub-b
+sub-b c = let s = c.before.before.before in part_most s.args.f c.last_lines-lines.result.near.root s.requires.1
 
-mul-h : tie.Need-overflow-mul-h
+mul-h : tie.Need-overflow_mul-h
 mul-h c = search rules
 
-mul-edge : tie.Need-overflow-mul-edge
+mul-edge : tie.Need-overflow_mul-edge
 mul-edge c = search rules
 
 returns : tie.Need-returns
@@ -63,13 +63,4 @@ returns c =
 pub cut_spec : {M : Type 1} → statement M
 cut_spec =
     tie.close
-    (tie.spec
-    mul-last-lines
-    mul-last-lines-2
-    last-lines-requires
-    mul-a
-    div-a
-    sub-b
-    mul-h
-    mul-edge
-    returns)
+    (tie.spec mul-last-lines mul-last-lines-2 last-lines-requires mul-a div-a sub-b mul-h mul-edge returns)

@@ -1,0 +1,53 @@
+-- `voices` works out the three periods from what is the same for all of them. Assumes nothing.
+-- pace and steady terms that are the source's are small
+use mathlib.Core.Path.{◌≡◌, ap₂, ◌∙◌}
+use Prim.Native.Nat.{ℕ, ◌-◌}
+use mathlib.Core.List.{[], ◌∷◌}
+use Rattle.road.specs.declared.Source.{Source}
+use Rattle.road.specs.declared.Term.{Term}
+use Rattle.road.specs.declared.Voice.{Voice}
+use Rattle.road.specs.declared.Pace.{Pace}
+use Rattle.road.specs.Term.{period}
+use Rattle.road.specs.Inner.{pace_of, steady_term, voice_by, voice_of, voices_of}
+use Rattle.road.proofs.Fit.{fit_source}
+use Rattle.road.proofs.Sums.{Small, Paced, paced, small_steady, voice_is}
+use Rattle.emission.proofs.voices.Goals as goal
+
+pace_small : (s : Source) (p : Pace) → p ≡ pace_of s → Paced p
+pace_small s p e = rw e (paced s)
+
+steady_small : (s : Source) (t : Term) → t ≡ steady_term s → Small 20000 t
+steady_small s t e = rw e (small_steady s)
+
+-- and the voice by them is the source's
+voiced : (s : Source) (i : ℕ) (p : Pace) (t : Term) (v : Voice) → p ≡ pace_of s → t ≡ steady_term s → v ≡ voice_by s.lanes p t (period s i) → v ≡ voice_of s i
+voiced s i p t v e f g = g ∙ ap₂ (λ (a : Pace) (b : Term). voice_by s.lanes a b (period s i)) e f ∙ voice_is s i
+
+pub voice-day-requires : goal.voice-day-requires
+voice-day-requires c =
+    let f = fit_source c.args.s c.requires.1 in
+    let p = pace_small c.args.s _ c.pace_of-pace.ensures in
+    let t = steady_small c.args.s _ c.steady_of-steady.ensures in
+    ((c.requires.0, p.car, p.gain, f.day.few, f.day.part), (t.up, t.down))
+
+pub voice-evening-requires : goal.voice-evening-requires
+voice-evening-requires c =
+    let f = fit_source c.args.s c.requires.1 in
+    let p = pace_small c.args.s _ c.pace_of-pace.ensures in
+    let t = steady_small c.args.s _ c.steady_of-steady.ensures in
+    ((c.requires.0, p.car, p.gain, f.evening.few, f.evening.part), (t.up, t.down))
+
+pub voice-night-requires : goal.voice-night-requires
+voice-night-requires c =
+    let f = fit_source c.args.s c.requires.1 in
+    let p = pace_small c.args.s _ c.pace_of-pace.ensures in
+    let t = steady_small c.args.s _ c.steady_of-steady.ensures in
+    ((c.requires.0, p.car, p.gain, f.night.few, f.night.part), (t.up, t.down))
+
+pub returns : goal.returns
+unfolding voices_of
+returns c =
+    let day = voiced c.args.s 0 _ _ _ c.pace_of-pace.ensures c.steady_of-steady.ensures c.voice-day.ensures in
+    let evening = voiced c.args.s 1 _ _ _ c.pace_of-pace.ensures c.steady_of-steady.ensures c.voice-evening.ensures in
+    let night = voiced c.args.s 2 _ _ _ c.pace_of-pace.ensures c.steady_of-steady.ensures c.voice-night.ensures in
+    λ i. day i ∷ evening i ∷ night i ∷ []

@@ -1,0 +1,14 @@
+-- `ends_number` gives the first column of its row, which has sixteen bits.
+-- Assumes nothing.
+use mathlib.Core.Path.{refl}
+use mathlib.Core.List.{[]}
+use native.Mathlib.Omega.{arith}
+use Rattle.road.specs.Fields.{ends_table, ends_of}
+use Rattle.road.proofs.Rows.{number_row, number_fits}
+use Rattle.judge.proofs.ends_number.Goals as goal
+
+pub overflow_cast-result : goal.overflow_cast-result
+overflow_cast-result c = omega (arith, number_fits ends_table (ends_of []) c.args.i c.ends_rows-rows.ensures refl)
+
+pub returns : goal.returns
+returns c = number_row ends_table (ends_of []) c.args.i c.ends_rows-rows.ensures

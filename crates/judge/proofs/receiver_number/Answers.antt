@@ -1,0 +1,14 @@
+-- `receiver_number` gives the first column of its row, which has sixteen bits.
+-- Assumes nothing.
+use mathlib.Core.Path.{refl}
+use mathlib.Core.List.{[]}
+use native.Mathlib.Omega.{arith}
+use Rattle.road.specs.Fields.{receiver_table, receiver_of}
+use Rattle.road.proofs.Rows.{number_row, number_fits}
+use Rattle.judge.proofs.receiver_number.Goals as goal
+
+pub overflow_cast-result : goal.overflow_cast-result
+overflow_cast-result c = omega (arith, number_fits receiver_table (receiver_of []) c.args.i c.receiver_rows-rows.ensures refl)
+
+pub returns : goal.returns
+returns c = number_row receiver_table (receiver_of []) c.args.i c.receiver_rows-rows.ensures

@@ -1,0 +1,12 @@
+-- `level` tells an energy below 10^6, which has no level, from the others. Assumes nothing.
+use mathlib.Core.Path.{sym, ap, ◌∙◌}
+use native.Mathlib.Omega.{arith}
+use Rattle.level.specs.declared.Loudness.TheVariants.{Level}
+use Rattle.level.proofs.Laws.{heard_quiet, heard_level}
+use Rattle.level.proofs.level.Goals as goal
+
+pub returns-then-energy-lt1000000 : goal.returns-then-energy-lt1000000
+returns-then-energy-lt1000000 c = sym (heard_quiet c.args.energy (omega arith))
+
+pub returns : goal.returns
+returns c = ap Level c.level_of.ensures ∙ sym (heard_level c.args.energy (omega arith))

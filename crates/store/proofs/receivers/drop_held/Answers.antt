@@ -1,0 +1,22 @@
+-- `drop_held` writes zeros into the bytes of slot j.
+-- Assumes nothing.
+use Prim.Native.Nat.{◌+◌, ◌*◌}
+use mathlib.Core.List.{List}
+use native.Mathlib.Omega.{arith}
+use Prim.Native.Nat.{ℕ}
+use Rattle.layout.specs.Over.{over}
+use Rattle.store.specs.Slots.{party_layout, slot_bytes}
+use Rattle.store.specs.Store.{receiver_size, store_length, split, held_party}
+use mathlib.Core.Path.{refl, ap, ◌∙◌}
+use Rattle.layout.proofs.Laws.{packed_zeros}
+use Rattle.store.proofs.Slots.{zeros_within}
+use Rattle.store.proofs.receivers.drop_held.Goals as goal
+
+pub put-requires : goal.put-requires
+unfolding store_length
+put-requires c = (refl, omega arith, zeros_within (party_layout held_party))
+
+pub returns : goal.returns
+unfolding slot_bytes split
+returns c =
+    c.put.ensures ∙ ap (λ (t : List ℕ). over (split + c.args.j * receiver_size) t c.args.store.now) (packed_zeros (party_layout held_party))

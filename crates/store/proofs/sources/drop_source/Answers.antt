@@ -1,0 +1,22 @@
+-- `drop_source` writes zeros into the bytes of slot i.
+-- Assumes nothing.
+use Prim.Native.Nat.{◌*◌}
+use mathlib.Core.List.{List}
+use native.Mathlib.Omega.{arith}
+use Prim.Native.Nat.{ℕ}
+use Rattle.layout.specs.Over.{over}
+use Rattle.store.specs.Slots.{party_layout, slot_bytes}
+use Rattle.store.specs.Store.{source_size, store_length, source_party}
+use mathlib.Core.Path.{refl, ap, ◌∙◌}
+use Rattle.layout.proofs.Laws.{packed_zeros}
+use Rattle.store.proofs.Slots.{zeros_within}
+use Rattle.store.proofs.sources.drop_source.Goals as goal
+
+pub put-requires : goal.put-requires
+unfolding store_length
+put-requires c = (refl, omega arith, zeros_within (party_layout source_party))
+
+pub returns : goal.returns
+unfolding slot_bytes
+returns c =
+    c.put.ensures ∙ ap (λ (t : List ℕ). over (c.args.i * source_size) t c.args.store.now) (packed_zeros (party_layout source_party))
