@@ -26,13 +26,13 @@ speed-requires c κs = search rules
 at_25 : (c : tie.After-traffic-at_25) → Small 20000 c.traffic-at_25.result
 at_25 c =
     let start = c.before.before.before in
-    let p = start.requires.steps_value in
+    let p = start.requires.0 in
     rw c.traffic-at_25.ensures (small_traffic start.args.lanes start.args.t (weighed start.args.t (pos_of_ne-zero c.if-t-eq0.false) p.3 p.4))
 
 by_speed : (c : tie.After-speed-by_speed) → Small 40000 c.speed-by_speed.result
 by_speed c =
     let start = c.before.before.before.before in
-    let p = start.requires.steps_value in
+    let p = start.requires.0 in
     rw c.speed-by_speed.ensures (small_speed start.args.pace start.args.t.p (record { car = p.1; gain = p.2 }) p.4)
 
 add-up : tie.Need-overflow_add-up
@@ -41,7 +41,7 @@ add-up c = omega (arith, (at_25 c.before.before.before).up, (by_speed c.before.b
 add-up-2 : tie.Need-overflow_add-up-2
 add-up-2 c =
     let start = c.before.before.before.before.before.before.before in
-    omega (arith, (at_25 c.before.before.before.before).up, (by_speed c.before.before.before).up, start.requires.up_bound.0)
+    omega (arith, (at_25 c.before.before.before.before).up, (by_speed c.before.before.before).up, start.requires.1.0)
 
 add-down : tie.Need-overflow_add-down
 add-down c = omega (arith, (at_25 c.before.before.before.before.before.before).down, (by_speed c.before.before.before.before.before).down)
@@ -49,7 +49,7 @@ add-down c = omega (arith, (at_25 c.before.before.before.before.before.before).d
 add-down-2 : tie.Need-overflow_add-down-2
 add-down-2 c =
     let start = c.before.before.before.before.before.before.before.before.before.before in
-    omega (arith, (at_25 c.before.before.before.before.before.before.before).down, (by_speed c.before.before.before.before.before.before).down, start.requires.up_bound.1)
+    omega (arith, (at_25 c.before.before.before.before.before.before.before).down, (by_speed c.before.before.before.before.before.before).down, start.requires.1.1)
 
 returns-2 : tie.Need-returns
 returns-2 c =

@@ -33,14 +33,14 @@ turn c =
     let ws = z.args.ws.now in
     let h : l.loop-i.i < length ws = omega arith in
     let r = sent_room l.loop-i.invariant.1 h c.count-w.ensures in
-    let m = sized_few ws z.requires.ws_value in
-    let n = sized_whole ws z.requires.ws_value in
-    (r.0, r.1, omega arith, omega arith, within_length ws z.args.vs.now z.requires.ws_in_bounds.1)
+    let m = sized_few ws z.requires.0 in
+    let n = sized_whole ws z.requires.0 in
+    (r.0, r.1, omega arith, omega arith, within_length ws z.args.vs.now z.requires.1.1)
 
 loop-holds : tie.Need-loop-i-init invariant-loop decreases-loop
 loop-holds c =
     let z = c.before.before.before in
-    (omega arith, sent_none z.requires.ws_value z.requires.ws_in_bounds.1)
+    (omega arith, sent_none z.requires.0 z.requires.1.1)
 
 shared-slice-read-count : tie.Need-bounds-ws-i invariant-loop decreases-loop
 shared-slice-read-count c = search rules
@@ -102,7 +102,7 @@ loop-again c =
     let h : (l.loop-i.have + k.count-w.result) % 8 < 8 = omega arith in (
       omega arith,
       rw (one_shl _ h, c.put_number.ensures)
-          (sent_more l.loop-i.invariant.1 z.requires.ws_value z.requires.ws_in_bounds.0 (omega arith) t.4 k.count-w.ensures refl
+          (sent_more l.loop-i.invariant.1 z.requires.0 z.requires.1.0 (omega arith) t.4 k.count-w.ensures refl
           c.join-x.ensures (omega arith) (omega arith)),
     )
 
@@ -112,7 +112,7 @@ same_length c = search rules
 returns : tie.Need-returns invariant-loop decreases-loop
 returns c =
     let l = c.before in
-    sent_all l.loop-i.invariant.1 l.requires.ws_value (omega arith)
+    sent_all l.loop-i.invariant.1 l.requires.0 (omega arith)
 
 pub put_fields_spec : {M : Type 1} → statement M
 put_fields_spec =

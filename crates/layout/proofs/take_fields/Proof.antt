@@ -30,12 +30,12 @@ turn c =
     let ws = z.args.ws.now in
     let h : l.loop-i.i < length ws = omega arith in
     let r = taken_room l.loop-i.invariant.2 h c.count-w.ensures in
-    let m = sized_few ws z.requires.ws_value in
-    let n = sized_whole ws z.requires.ws_value in
-    (r.0, r.1, omega arith, omega arith, λ e. let k = z.requires.ws_in_bounds.2 e in omega (arith, k))
+    let m = sized_few ws z.requires.0 in
+    let n = sized_whole ws z.requires.0 in
+    (r.0, r.1, omega arith, omega arith, λ e. let k = z.requires.1.2 e in omega (arith, k))
 
 loop-holds : tie.Need-loop-i-init invariant-loop decreases-loop
-loop-holds c = (omega arith, refl, taken_none (omega arith) c.requires.ws_value)
+loop-holds c = (omega arith, refl, taken_none (omega arith) c.requires.0)
 
 shared-slice-read-count : tie.Need-bounds-ws-i invariant-loop decreases-loop
 shared-slice-read-count c = search rules
@@ -67,7 +67,7 @@ loop-again c =
     let z = l.before.before.before.before in (
       omega arith,
       simp length-set l.loop-i.invariant.1,
-      taken_more l.loop-i.invariant.2 z.requires.ws_value z.requires.ws_in_bounds.0 (λ i. (l.shared_slice_known-1.given i).fits)
+      taken_more l.loop-i.invariant.2 z.requires.0 z.requires.1.0 (λ i. (l.shared_slice_known-1.given i).fits)
           (omega arith) (omega arith) c.count-w.ensures c.one_field-v.ensures,
     )
 

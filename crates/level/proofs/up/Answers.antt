@@ -34,5 +34,4 @@ loop-level-preserved c =
 
 pub returns : goal.returns
 returns c =
-    let at-loop = c in
-    last c.args.sum at-loop.loop.level c.energy.result c.requires.1 at-loop.loop.invariant c.energy.ensures (omega arith)
+    last c.args.sum c.loop-level.level c.energy.result c.requires.1 c.loop-level.invariant c.energy.ensures (omega arith)

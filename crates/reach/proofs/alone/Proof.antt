@@ -25,10 +25,10 @@ use Rattle.reach.proofs.alone.Tie as tie
 
 -- what the arguments tell
 piece : (c : tie.Start) → FitPiece c.args.sent.whole
-piece c = let p = c.requires.x_le_coordinate in record { x = p.0; y = p.1; some = p.2; short = p.3 }
+piece c = let p = c.requires.1 in record { x = p.0; y = p.1; some = p.2; short = p.3 }
 
 receiver : (c : tie.Start) → FitReceiver c.args.r
-receiver c = fit_receiver c.args.r c.requires.steps_value.2
+receiver c = fit_receiver c.args.r c.requires.0.2
 
 plan-requires : tie.Need-plan-q0-requires
 plan-requires c κs = let f = piece c.before.before in let r = receiver c.before.before in (f.x, f.y, r.x, r.y)

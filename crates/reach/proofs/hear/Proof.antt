@@ -21,7 +21,7 @@ use Rattle.reach.proofs.hear.Statement.{statement}
 use Rattle.reach.proofs.hear.Tie as tie
 
 last-lines-requires : tie.Need-last_lines-lines-requires
-last-lines-requires c κs = c.requires.steps_value.3
+last-lines-requires c κs = c.requires.0.3
 
 -- the two roots are those of the squares, and in range
 near_is : (c : tie.After-last_lines-lines) → c.last_lines-lines.result.near.root ≡ root_of c.args.q0
@@ -34,36 +34,36 @@ in_range : (q : ℕ) → 1 ≤ q → q ≤ farthest → Reached (root_of q)
 in_range q a b = let h = root_is q in reached q (root_of q) a b (h.at_most, h.above)
 
 near : (c : tie.After-last_lines-lines) → Reached c.last_lines-lines.result.near.root
-near c = let p = c.requires.steps_value in rw (near_is c) (in_range c.args.q0 p.2 (omega (arith, p.3, p.4)))
+near c = let p = c.requires.0 in rw (near_is c) (in_range c.args.q0 p.2 (omega (arith, p.3, p.4)))
 
 far : (c : tie.After-last_lines-lines) → Reached c.last_lines-lines.result.far.root
-far c = let p = c.requires.steps_value in rw (far_is c) (in_range c.args.q (omega (arith, p.2, p.3)) p.4)
+far c = let p = c.requires.0 in rw (far_is c) (in_range c.args.q (omega (arith, p.2, p.3)) p.4)
 
 way-requires : tie.Need-way-over-requires
 way-requires c κs =
-    let p = c.requires.steps_value in
-    (p.0, omega (arith, p.2, p.3), p.4, p.5, (far c).some, (far c).most, c.requires.up_bound.2)
+    let p = c.requires.0 in
+    (p.0, omega (arith, p.2, p.3), p.4, p.5, (far c).some, (far c).most, c.requires.1.2)
 
 -- distance and ground are small, and the length's term with them
 short : (c : tie.After-way-over) → Small 50000 c.way-over.result
 short c =
     let a = c.args in
-    let p = c.requires.steps_value in
-    rw c.way-over.ensures (small_way a.q c.last_lines-lines.result.far.root a.h a.screening (omega (arith, p.2, p.3)) p.4 (far c.before).most c.requires.up_bound.2)
+    let p = c.requires.0 in
+    rw c.way-over.ensures (small_way a.q c.last_lines-lines.result.far.root a.h a.screening (omega (arith, p.2, p.3)) p.4 (far c.before).most c.requires.1.2)
 
 abbrev whole : tie.After-way-over → Term
 whole c = c.args.length ⊕ c.way-over.result
 
 whole_short : (c : tie.After-way-over) → Small 100000 (whole c)
 whole_short c =
-    let l = c.requires.up_bound in
+    let l = c.requires.1 in
     record { up = omega (arith, l.0, (short c).up); down = omega (arith, l.1, (short c).down) }
 
 add-up : tie.Need-overflow_add-up
-add-up c = let w = c.before.before in omega (arith, w.requires.up_bound.0, (short w).up)
+add-up c = let w = c.before.before in omega (arith, w.requires.1.0, (short w).up)
 
 add-down : tie.Need-overflow_add-down
-add-down c = let w = c.before.before.before.before in omega (arith, w.requires.up_bound.1, (short w).down)
+add-down c = let w = c.before.before.before.before in omega (arith, w.requires.1.1, (short w).down)
 
 array-copy-out-share : tie.Need-bounds-voices-0
 array-copy-out-share c = search rules
@@ -71,7 +71,7 @@ array-copy-out-share c = search rules
 share-requires : tie.Need-share-day-requires
 share-requires c κs =
     let w = c.before.before.before.before.before in
-    let p = w.requires.steps_value in
+    let p = w.requires.0 in
     ((p.0, p.1.day, (whole_short w).up, (whole_short w).down), (omega arith, p.5, (near w.before).some, (near w.before).most))
 
 array-copy-out-share-2 : tie.Need-bounds-voices-1
@@ -80,7 +80,7 @@ array-copy-out-share-2 c = search rules
 share-requires-2 : tie.Need-share-evening-requires
 share-requires-2 c κs =
     let w = c.before.before.before.before.before.before.before in
-    let p = w.requires.steps_value in
+    let p = w.requires.0 in
     ((p.0, p.1.evening, (whole_short w).up, (whole_short w).down), (omega arith, p.5, (near w.before).some, (near w.before).most))
 
 array-copy-out-share-3 : tie.Need-bounds-voices-2
@@ -89,7 +89,7 @@ array-copy-out-share-3 c = search rules
 share-requires-3 : tie.Need-share-night-requires
 share-requires-3 c κs =
     let w = c.before.before.before.before.before.before.before.before.before in
-    let p = w.requires.steps_value in
+    let p = w.requires.0 in
     ((p.0, p.1.night, (whole_short w).up, (whole_short w).down), (omega arith, p.5, (near w.before).some, (near w.before).most))
 
 -- the share by the way and the root that were found is the part of the period

@@ -27,20 +27,20 @@ cut-requires : tie.Need-cut-c-requires
 cut-requires c κs =
     let s = c.before in
     let a = s.args in
-    let h = s.requires.steps_value in
-    let e = s.requires.q0_value.1 in
+    let h = s.requires.0 in
+    let e = s.requires.1.1 in
     let proper = fraction_proper a.p a.r a.w h.4 in
-    let most = fraction_most a.p a.r a.w h.3 h.4 (omega (arith, s.requires.q0_value.0, e.rises, e.near)) in
+    let most = fraction_most a.p a.r a.w h.3 h.4 (omega (arith, s.requires.1.0, e.rises, e.near)) in
     (e, rw c.fraction-f.ensures proper.below, rw c.fraction-f.ensures (omega (arith, proper.below)), h.3.low)
 
 screening-requires : tie.Need-screening-requires
 screening-requires c κs =
     let s = c.before.before in
     let a = s.args in
-    let h = s.requires.steps_value in (
+    let h = s.requires.0 in (
       h.0,
       subst Upright (sym (section_is c))
-          (section_upright a.q0 a.q (fraction_of a.p a.r a.w) a.height a.w.height s.requires.q0_value.1 (fraction_proper a.p a.r a.w h.4).below h.3.low),
+          (section_upright a.q0 a.q (fraction_of a.p a.r a.w) a.height a.w.height s.requires.1.1 (fraction_proper a.p a.r a.w h.4).below h.3.low),
     )
 
 returns : tie.Need-returns
