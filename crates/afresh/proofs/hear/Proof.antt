@@ -39,10 +39,10 @@ enum-known-shares c = search rules
 
 add-requires : tie.Need-add-requires
 add-requires c κs =
-    let p = c.before.before.before in
+    let p = c.before in
     let s = p.before.before.before.before.before.before.before in
     let a = s.args in
-    (s.requires.4, subst Mild (sym p.pair.ensures ∙ c.shares-1.given.1) (pair_bounded (walls_of a.walls.now) a.s a.t.seat.held.who))
+    (s.requires.4, subst Mild (sym p.pair.ensures ∙ c.in-Heard.is) (pair_bounded (walls_of a.walls.now) a.s a.t.seat.held.who))
 
 enum-known-why : tie.Need-enum_known-why
 enum-known-why c = search rules
@@ -51,10 +51,10 @@ bar-requires : tie.Need-bar-requires
 bar-requires c κs = search rules
 
 returns-2 : tie.Need-returns-in-Heard
-returns-2 c = c.add.ensures ∙ by_pair c.before.before.before.before _ c.shares-1.given.1
+returns-2 c = c.add.ensures ∙ by_pair c.before.before _ c.in-Heard.is
 
 returns-3 : tie.Need-returns-in-Barred
-returns-3 c = c.bar.ensures ∙ by_pair c.before.before.before.before _ c.why-1.given.1
+returns-3 c = c.bar.ensures ∙ by_pair c.before.before _ c.in-Barred.is
 
 pub hear_spec : {M : Type 1} → statement M
 hear_spec =

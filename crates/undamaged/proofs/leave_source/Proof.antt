@@ -23,7 +23,7 @@ out c o =
     told a.store.now (from_used o (λ (s : Source). change_source a.i none (book_of a.store.now)))
 
 source-slot-requires : tie.Need-source_slot-source_slot-requires
-source-slot-requires c κs = let start = c.before.before in (start.requires.2, (undamaged start.args.store.now start.requires.1).0)
+source-slot-requires c κs = let start = c.before in (start.requires.2, (undamaged start.args.store.now start.requires.1).0)
 
 same_length : tie.Need-shape_of-store-then-not-source_slot
 same_length c = search rules
@@ -31,13 +31,13 @@ same_length c = search rules
 returns : tie.Need-returns-then-not-source_slot
 returns c =
     let t = c.before.before in
-    let start = t.before.before.before in
+    let start = t.before.before in
     ap (out start) (sym (source_slot_free start.args.store.now start.args.i start.requires.1 start.requires.2 t.source_slot-source_slot.result t.source_slot-source_slot.ensures c.if-not-source_slot.true))
 
 -- the slot is used, and by a source that may be there
 there : (t : tie.After-source_slot-source_slot) → t.source_slot-source_slot.result.used ≡ true → SourceStands t.source_slot-source_slot.result.source
 there t e =
-    let start = t.before.before.before in
+    let start = t.before.before in
     source_slot_stands start.args.store.now start.args.i start.requires.1 start.requires.2 t.source_slot-source_slot.result t.source_slot-source_slot.ensures e
 
 sends-requires : tie.Need-sends-goes-requires
