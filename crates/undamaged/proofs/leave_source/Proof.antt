@@ -43,8 +43,8 @@ there t e =
 
 sends-requires : tie.Need-sends-goes-requires
 sends-requires c κs =
-    let t = c.before.before in
-    let start = t.before.before.before in
+    let t = c.before.before.before in
+    let start = t.before.before in
     (start.requires.0, (there t (not-false _ c.if-not-source_slot.false)).0)
 
 nobody-requires : tie.Need-nobody-comes-requires
@@ -54,8 +54,8 @@ change-source-requires : tie.Need-change_source-requires
 change-source-requires c κs =
     let n = c.before in
     let f = n.before.before in
-    let t = f.before.before in
-    let start = t.before.before.before in
+    let t = f.before.before.before in
+    let start = t.before.before in
     let used = (not-false _ f.if-not-source_slot.false) in
     let is = source_slot_used start.args.store.now start.args.i start.requires.1 start.requires.2 t.source_slot-source_slot.result t.source_slot-source_slot.ensures used in (
       start.requires.0,
