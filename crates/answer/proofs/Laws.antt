@@ -1,7 +1,7 @@
 -- A refusal can be read back from its number and its place: two that a caller cannot tell apart are the same.
 -- Assumes nothing.
 use mathlib.Core.Path.{◌≡◌, refl, sym, ap, ap₂, ◌∙◌}
-use mathlib.Core.List.{List, [], ◌∷◌}
+use mathlib.Core.List.{[], ◌∷◌}
 use lib.ListN.{get_or}
 use Prim.Native.Nat.{ℕ}
 use native.Mathlib.Omega.{arith}

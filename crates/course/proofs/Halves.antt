@@ -1,14 +1,13 @@
 -- Why a half is shorter: with lengths that are roots of squared distances, down or nearest, twice a half's length is at most the whole's
 -- and 3. Squares are compared, since `omega` knows no products. Assumes nothing.
-use mathlib.Core.Path.{◌≡◌, refl, sym, subst}
-use Prim.Native.Nat.{ℕ, zero, suc, ◌+◌, ◌-◌, ◌*◌, ◌^◌, ◌≤◌, ◌<◌}
+use mathlib.Core.Path.{◌≡◌, sym, subst}
+use Prim.Native.Nat.{ℕ, ◌+◌, ◌-◌, ◌*◌, ◌^◌, ◌≤◌, ◌<◌}
 use native.Mathlib.Nat.{mul-le-mul, mul-mul-mul_comm, mul-add, add-mul, lt_irrefl, lt_of_lt_of_le}
 use native.Mathlib.Decide.{dec_le, dec_lt}
 use native.Mathlib.Omega.{arith}
-use Rattle.root.specs.Root.{IsRoot, root_of}
 use Rattle.root.proofs.Laws.{root_is}
 use Rattle.course.specs.declared.Ends.{Ends}
-use Rattle.course.specs.Course.{apart, square, mean, plan_between, length_of, first_half, second_half, Mapped}
+use Rattle.course.specs.Course.{apart, square, plan_between, length_of, first_half, second_half, Mapped}
 
 -- ---- squares
 

@@ -1,10 +1,9 @@
 -- Bounds: the level of a sum is at most 117.09 dB, the energies of the three periods add up to less than 2^64, and no index is above 200 dB.
 -- Assumes nothing.
-use mathlib.Core.Path.{◌≡◌, refl, sym, ap, ◌∙◌, subst}
-use Prim.Native.Nat.{ℕ, ◌+◌, ◌*◌, ◌^◌, ◌≤◌, ◌<◌}
+use mathlib.Core.Path.{◌≡◌, refl, sym, ap, subst}
+use Prim.Native.Nat.{ℕ, ◌+◌, ◌^◌, ◌≤◌, ◌<◌}
 use native.Mathlib.Decide.{dec_lt}
 use native.Mathlib.Omega.{arith}
-use lib.Dec.{lit≤}
 use Rattle.level.specs.Table.{table, first_quarter, second_quarter, third_quarter, fourth_quarter}
 use Rattle.level.specs.Level.{energy_of, level_of, loudness_of}
 use Rattle.level.specs.declared.Loudness.{Loudness}

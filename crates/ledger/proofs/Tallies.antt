@@ -5,17 +5,14 @@ use mathlib.Core.Bool.{Bool, true, false, cond, not}
 use mathlib.Core.Option.{Option, none, some}
 use mathlib.Core.List.{List, [], ◌∷◌, map}
 use mathlib.Core.List.{map-map, map-id}
-use Prim.Native.Nat.{ℕ, zero, suc, ◌+◌, ◌*◌, ◌≤◌, ◌<◌}
-use native.Mathlib.Nat.{add_assoc}
+use Prim.Native.Nat.{ℕ, suc, ◌+◌, ◌*◌, ◌≤◌, ◌<◌}
 use native.Mathlib.Numerals.{add-one}
 use native.Mathlib.Omega.{arith}
 use lib.ListN.{length, get_or, drop, length-map, get_or-map, drop_of_length-le}
 use lib.Seq.{drop-cons}
 use Rattle.answer.specs.declared.Refusal.{Refusal}
-use Rattle.level.specs.Level.{top}
 use Rattle.road.specs.declared.Source.{Source}
 use Rattle.road.specs.declared.Receiver.{Receiver}
-use Rattle.road.specs.declared.Shares.{Shares}
 use Rattle.road.specs.declared.Bar.{Bar}
 use Rattle.road.specs.declared.Pair.{Pair}
 use Rattle.road.specs.declared.Pair.TheVariants.{Heard}
@@ -25,18 +22,16 @@ use Rattle.road.specs.Judge.{receiver_verdict}
 use Rattle.road.specs.Pairs.{Pairing, most_share, share_in, Bounded}
 use Rattle.account.specs.declared.Account.{Account}
 use Rattle.store.specs.declared.Held.{Held}
-use Rattle.store.specs.declared.Seat.{Seat}
 use Rattle.account.specs.Account.{plus_of, nothing}
 use Rattle.store.specs.Slots.{Each}
 use Rattle.store.specs.Store.{source_count, receiver_count, HeldStands}
-use Rattle.ledger.specs.declared.round.Stop.{Stop}
 use Rattle.ledger.specs.declared.round.Round.{Round}
 use Rattle.ledger.specs.declared.Block.{Block}
 use Rattle.ledger.specs.declared.Block.TheVariants.{Nothing, By}
 use Rattle.ledger.specs.declared.Tally.{Tally}
 use Rattle.ledger.specs.Lists.{omap, present, every, bar_at, or_bar, first_bar, weigh}
-use Rattle.ledger.specs.Changes.{follow, bar_of, onward, together, renewing}
-use Rattle.ledger.specs.Ledger.{to_seat, stop_of, tally, begun, or_block, heard_by, heard_from, heard_at, heard_all, Ready, AllReady, blocked_or, first_block, Rounded}
+use Rattle.ledger.specs.Changes.{follow, onward, together, renewing}
+use Rattle.ledger.specs.Ledger.{to_seat, stop_of, tally, begun, or_block, heard_by, heard_from, heard_at, heard_all, AllReady, blocked_or, first_block, Rounded}
 
 -- ---- one receiver with all sources
 

@@ -15,11 +15,11 @@ use Rattle.course.specs.declared.Course.TheVariants.{Uncut, Between}
 use Rattle.road.specs.declared.Source.{Source}
 use Rattle.road.specs.declared.Verdict.{Verdict}
 use Rattle.road.specs.declared.Verdict.TheVariants.{Allowed}
-use Rattle.road.proofs.Fit.{past, fit_course, rest_allowed, piece_within, ends_within, source_within, receiver_within, wall_within}
+use Rattle.road.proofs.Fit.{past, fit_course, piece_within, ends_within, source_within, receiver_within, wall_within}
 use Rattle.road.proofs.Judged.{slot_allowed}
 use Rattle.road.proofs.Rows as rows
 use Rattle.road.proofs.Rows.{upto, all_of, upto_take, source_values_again}
-use Rattle.road.specs.Fields.{piece_table, ends_table, length_table, receiver_table, wall_table, bits_by, values_by, source_table, piece_of, ends_of, source_of}
+use Rattle.road.specs.Fields.{piece_table, ends_table, length_table, receiver_table, wall_table, bits_by, values_by, source_table, piece_of, source_of}
 use Rattle.road.specs.Judge.{receiver_fields, wall_fields, source_fields, unless_outside, course_verdict, rest_verdict, source_verdict, receiver_verdict, wall_verdict, slot_verdict}
 use Rattle.daily.specs.Daily.{daily_bits, daily_fields, daily_verdict}
 use Rattle.daily.proofs.Laws.{daily_within}

@@ -28,7 +28,7 @@ use Rattle.request.specs.declared.Request.TheVariants.{Ask}
 use Rattle.request.specs.declared.Told.TheVariants as told
 use Rattle.request.specs.declared.Written.{Written}
 use Rattle.request.specs.declared.Written.TheVariants as written
-use Rattle.request.specs.Kinds.{kind_bits, at, blank, kind_at, layout_of, call_in, source_in, leftover_of, verdict_of, kind_number, fields_of}
+use Rattle.request.specs.Kinds.{at, blank, kind_at, layout_of, call_in, source_in, leftover_of, verdict_of, kind_number, fields_of}
 use Rattle.request.specs.Record.{kind_of, length_of, values_of, cut_short, unknown_kind, leftover_set, reading, refused, judged, heard_by, heard, read_of, extent_of, record_of, written_by, write_of}
 use Rattle.request.specs.Inner.{filled, first_of}
 use Rattle.request.proofs.Rows.{row_begun}

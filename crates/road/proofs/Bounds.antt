@@ -1,11 +1,10 @@
 -- Bounds of products and of levels that the code works with. Assumes nothing.
 use mathlib.Core.Path.{◌≡◌}
-use Prim.Native.Nat.{ℕ, ◌+◌, ◌-◌, ◌*◌, ◌/◌, ◌^◌, ◌≤◌, ◌<◌}
-use native.Mathlib.Nat.{mul-le-mul, mul-pos, le_trans}
+use Prim.Native.Nat.{ℕ, ◌+◌, ◌*◌, ◌≤◌, ◌<◌}
+use native.Mathlib.Nat.{mul-le-mul, mul-pos}
 use native.Mathlib.Omega.{arith}
-use lib.Dec.{lit≤}
 use Rattle.level.specs.Level.{lv_of, energy_of}
-use Rattle.level.proofs.Laws.{lv_least, lv_most, energy_decade, energy_rises, energy_least}
+use Rattle.level.proofs.Laws.{lv_least, lv_most, energy_decade, energy_rises}
 use Rattle.road.specs.Emission.{car_level, truck_level, truck_gain}
 
 pub times : (a b c d : ℕ) → a ≤ c → b ≤ d → a * b ≤ c * d

@@ -43,7 +43,7 @@ use Rattle.road.specs.Emission.{emission_level}
 use Rattle.road.specs.Reach.{plan_square, space_square, length_term, distance_term, ground_term, screen_between, obstacle_term, walls_term, weather_term, weather_of, ray_height, share_level, energy_share, too_loud, share_of, loud_in, shares_of, sum_of, shares_over, bar_of, first_or, first_bar, any_of, unless_walls, unless_loud, unless_barred, pair_over, two_walls, pair_of, pieces_for, piece_alone, nearest, farthest, loudest, Promises}
 use Rattle.road.specs.Pairs.{Pairing, most_share, share_in, Bounded}
 use Rattle.road.specs.Limits.{longest}
-use Rattle.road.specs.Inner.{silent, voice_of, voices_of, voiced_part, way_of, part_in, pair_by, hear_of, voiced_share, way_for, share_by, added_shares, rank, earlier, joined}
+use Rattle.road.specs.Inner.{silent, voice_of, voices_of, voiced_part, pair_by, hear_of, voiced_share, way_for, share_by, added_shares, rank, earlier, joined}
 use Rattle.road.proofs.Bounds.{times, lv_small}
 use Rattle.road.proofs.Sums.{term_eq, Small}
 

@@ -1,7 +1,6 @@
 -- A source of the code has three periods of traffic; in antt they are a list, and one of three is its three entries.
 -- `owned_periods` is how a proof learns it of an argument. Assumes nothing.
-use Prim.Native.Nat.{ℕ}
-use mathlib.Core.Path.{◌≡◌, refl, sym, ap, ◌∙◌}
+use mathlib.Core.Path.{◌≡◌, refl, ap}
 use mathlib.Core.List.{List, [], ◌∷◌}
 use native.Mathlib.Omega.{arith}
 use lib.ListN.{length, get_or}

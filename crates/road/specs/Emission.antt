@@ -1,6 +1,6 @@
 -- What a road gives out (VBUS section 3.5, METHOD 6): its emission level and each of its five terms, in the paper's order.
 -- `lv_of` and `energy_of` are lv and E; speeds are brought into range before they are used.
-use Rattle.std.specs.Prelude.{ℕ, ◌+◌, ◌-◌, ◌*◌, ◌/◌, ◌%◌, ◌^◌, min, max, Bool, true, false, cond, List, [], ◌∷◌, get_or, leb, ltb, eqb}
+use Rattle.std.specs.Prelude.{ℕ, ◌+◌, ◌-◌, ◌*◌, ◌/◌, ◌%◌, min, max, cond, List, [], ◌∷◌, get_or, leb, ltb, eqb}
 use Rattle.level.specs.Level.{lv_of, energy_of}
 use Rattle.road.specs.declared.Term.{Term}
 use Rattle.road.specs.declared.Traffic.{Traffic}

@@ -2,7 +2,6 @@
 -- The fields, their limits and their numbers are the rows of Fields.antt.
 use Rattle.std.specs.Prelude.{ℕ, Bool, cond, ◌&&◌, List, length, leb, ltb}
 use Rattle.layout.specs.Bounds.{first_outside}
-use Rattle.answer.specs.declared.Refusal.{Refusal}
 use Rattle.answer.specs.declared.Refusal.TheVariants.{Field, SlowSurface, QuietTruck}
 use Rattle.course.specs.declared.Course.{Course}
 use Rattle.course.specs.declared.Course.TheVariants.{Uncut, Between}

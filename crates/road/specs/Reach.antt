@@ -1,6 +1,6 @@
 -- What of a road reaches a point (VBUS sections 3.3, 3.4 and 3.6 to 3.10, METHOD 7 and 9): the share level of a piece, its terms,
 -- the road's pieces, and the pair's answer. Lengths are in cm. `root_of` is the root, down.
-use Rattle.std.specs.Prelude.{ℕ, ◌+◌, ◌-◌, ◌*◌, ◌/◌, ◌%◌, ◌^◌, min, max, ◌≡◌, ◌≢◌, Bool, true, false, cond, not, ◌||◌, get_or, leb, ltb, eqb}
+use Rattle.std.specs.Prelude.{ℕ, ◌+◌, ◌-◌, ◌*◌, ◌/◌, min, max, ◌≡◌, ◌≢◌, Bool, false, cond, ◌||◌, get_or, leb, ltb, eqb}
 use Rattle.std.proofs.Math.Option.{Option, none, some}
 use mathlib.Core.List.{List, [], ◌∷◌, Permᴰ}
 use Rattle.level.specs.Level.{lv_of, energy_at}
@@ -15,10 +15,8 @@ use Rattle.screen.specs.declared.Loss.{Loss}
 use Rattle.screen.specs.Plan.{point}
 use Rattle.screen.specs.Screen.{loss_of, is_twice, taken_off}
 use Rattle.road.specs.declared.Term.{Term}
-use Rattle.road.specs.declared.Traffic.{Traffic}
 use Rattle.road.specs.declared.Source.{Source}
 use Rattle.road.specs.declared.Receiver.{Receiver}
-use Rattle.road.specs.declared.Voice.{Voice}
 use Rattle.road.specs.declared.Shares.{Shares}
 use Rattle.road.specs.declared.Bar.{Bar}
 use Rattle.road.specs.declared.Bar.TheVariants.{Near, Far, Long, Loud, Walls}

@@ -1,6 +1,6 @@
 -- A term of the sum: a level in hundredths of a dB as what it adds and what it takes off, so that all numbers are natural.
 -- Terms are added side by side; a level is the difference of the two sides.
-use Rattle.std.specs.Prelude.{ℕ, ◌+◌, ◌-◌, List, [], ◌∷◌, get_or}
+use Rattle.std.specs.Prelude.{ℕ, ◌+◌, get_or}
 use Rattle.road.specs.declared.Term.{Term}
 use Rattle.road.specs.declared.Traffic.{Traffic}
 use Rattle.road.specs.declared.Source.{Source}

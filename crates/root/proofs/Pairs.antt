@@ -1,11 +1,11 @@
 -- How many pairs of bits a number has from the highest that is not zero, and the place of that pair. Assumes nothing.
 use mathlib.Core.Path.{◌≡◌, refl, sym, ap, ◌∙◌}
 use Prim.Native.Nat.{ℕ, zero, suc, ◌+◌, ◌-◌, ◌*◌, ◌/◌, ◌^◌, ◌≤◌, ◌<◌}
-use native.Mathlib.Nat.{le_antisymm, le_trans, le_of_eq, lt_of_lt_of_le, pow-suc, pow-le-pow_right, mul-mul-mul_comm, div-div-eq-div-mul, mul-div_cancel, one-le-pow}
+use native.Mathlib.Nat.{le_antisymm, le_trans, le_of_eq, pow-suc, pow-le-pow_right, mul-mul-mul_comm, div-div-eq-div-mul, mul-div_cancel, one-le-pow}
 use native.Mathlib.Decide.{dec_le, ℕ_discrete}
 use native.Mathlib.Omega.{arith}
 use borrow.Author.Tests.{ne_eqb}
-use lib.Count.{count_leading_zeros, leading_length, leading_le}
+use lib.Count.{count_leading_zeros, leading_length}
 use lib.Pow.{pow-add, pow_mono}
 use Rattle.root.specs.Root.{pairs_in, pairs_of}
 use Rattle.root.proofs.Laws.{enough}

@@ -1,6 +1,6 @@
 -- How the calculation goes on in columns: the line of a number at a place, the next one, the last one; and that all of it fits 64 bits.
 -- Assumes nothing.
-use mathlib.Core.Path.{◌≡◌, refl, sym, ap, subst, ◌∙◌}
+use mathlib.Core.Path.{◌≡◌, refl, sym, ap, ◌∙◌}
 use Prim.Native.Nat.{ℕ, zero, suc, ◌+◌, ◌-◌, ◌*◌, ◌/◌, ◌%◌, ◌^◌, ◌≤◌, ◌<◌}
 use native.Mathlib.Nat.{one-le-pow, pow-succ', lt_of_le_of_lt, mul_comm, mul_assoc, add-mul, mul-le-mul_left, mul-le-mul_right, mul-add-mod_self_right, div-div-eq-div-mul, div-lt_iff_lt-mul, div-one, mod-one, mul-one, mod-lt, div-add-mod', div-eq_of_lt, mod-eq_of_lt, le_trans, le_of_eq}
 use native.Mathlib.Omega.{arith}

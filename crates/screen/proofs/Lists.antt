@@ -1,21 +1,19 @@
 -- Walls lent as numbers, and those that count: what is met so far, put before what is still to be looked at. Assumes nothing.
-use mathlib.Core.Path.{◌≡◌, refl, sym, ap, ap₂, ◌∙◌, subst}
+use mathlib.Core.Path.{◌≡◌, refl, sym, ap, ◌∙◌, subst}
 use mathlib.Core.Bool.{Bool, true, false, cond}
-use mathlib.Core.List.{List, [], ◌∷◌, ◌++◌, Permᴰ}
+use mathlib.Core.List.{List, [], ◌∷◌, Permᴰ}
 use Prim.Native.Nat.{ℕ, zero, suc, ◌+◌, ◌-◌, ◌*◌, ◌/◌, ◌≤◌, ◌<◌}
-use native.Mathlib.Numerals.{add-one}
-use native.Mathlib.Nat.{mul-div_cancel_left}
 use native.Mathlib.Omega.{arith}
-use lib.ListN.{length, drop, get_or}
+use lib.ListN.{length, drop}
 use lib.Seq.{drop-drop}
 use Rattle.screen.specs.declared.Point.{Point}
 use Rattle.screen.specs.declared.Wall.{Wall}
 use Rattle.screen.specs.declared.Met.{Met}
 use Rattle.screen.specs.declared.Met.TheVariants.{Nothing, One, Several}
-use Rattle.screen.specs.declared.Loss.TheVariants.{Off, Twice}
+use Rattle.screen.specs.declared.Loss.TheVariants.{Off}
 use Rattle.screen.specs.Plan.{WallOnPlan, counts, fraction_of}
 use Rattle.screen.specs.Section.{Reaches, section_of, screening, screening_of}
-use Rattle.screen.specs.Screen.{between, told, met_of, loss_by, loss_of, one_more, look_at, wall_numbers, wall_of, laid, walls_in, walls_of, AllOnPlan, Laid}
+use Rattle.screen.specs.Screen.{between, told, met_of, loss_by, loss_of, one_more, look_at, wall_of, laid, walls_in, walls_of, AllOnPlan, Laid}
 use Rattle.screen.proofs.Lines.{fraction_proper}
 use Rattle.screen.proofs.Heights.{section_upright, screening_most}
 

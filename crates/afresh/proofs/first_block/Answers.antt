@@ -1,6 +1,5 @@
 -- `first_block` looks at one receiver after the other. Assumes nothing.
 use mathlib.Core.Path.{refl, sym, ap, ◌∙◌}
-use Prim.Native.Nat.{◌-◌}
 use native.Mathlib.Omega.{arith}
 use Rattle.ledger.specs.declared.round.Stop.TheVariants.{At}
 use Rattle.ledger.specs.Ledger.{stop_of}

@@ -1,6 +1,5 @@
 -- `go_afresh` tells the accounts as a round. Assumes nothing.
 use mathlib.Core.Path.{refl}
-use Prim.Native.Nat.{◌-◌}
 use Rattle.screen.specs.Screen.{walls_of}
 use Rattle.road.specs.Reach.{pair_of}
 use Rattle.store.specs.Store.{book_of}

@@ -1,7 +1,6 @@
 -- `hear` works the pair out where somebody is. Assumes nothing.
 use borrow.Author.Tests.{not-true, not-false}
-use mathlib.Core.Path.{◌≡◌, refl, sym, ap, subst, ◌∙◌}
-use Prim.Native.Nat.{ℕ}
+use mathlib.Core.Path.{◌≡◌, sym, ap, subst, ◌∙◌}
 use mathlib.Core.Bool.{Bool, true, cond}
 use borrow.Author.Rules.{rules}
 use Rattle.screen.specs.Screen.{walls_of}

@@ -1,6 +1,5 @@
 -- `hear_all` hears the source at every receiver. Assumes nothing.
 use mathlib.Core.Path.{refl}
-use Prim.Native.Nat.{◌-◌}
 use native.Mathlib.Omega.{arith}
 use mathlib.Core.Option.{none}
 use Rattle.screen.specs.Screen.{walls_of}

@@ -1,16 +1,12 @@
 -- `hear_slot` reads a slot, and hears its source. Assumes nothing.
-use mathlib.Core.Path.{◌≡◌, refl, sym, ap, ap₂, ◌∙◌, subst}
-use Prim.Native.Nat.{ℕ, ◌+◌, ◌-◌, ◌≤◌, ◌<◌}
-use native.Mathlib.Omega.{arith}
-use borrow.Author.Rules.{rules}
+use mathlib.Core.Path.{◌≡◌, refl, sym, ap, ◌∙◌}
 use mathlib.Core.Bool.{true}
-use mathlib.Core.Option.{Option, none}
-use lib.ListN.{get_or}
+use mathlib.Core.Option.{Option}
 use Rattle.screen.specs.Screen.{walls_of}
 use Rattle.road.specs.declared.Source.{Source}
 use Rattle.road.specs.Reach.{pair_of}
 use Rattle.store.specs.declared.SourceSlot.{SourceSlot}
-use Rattle.store.specs.Store.{book_of, source_at, source_slot_of, SourceStands}
+use Rattle.store.specs.Store.{source_at, source_slot_of, SourceStands}
 use Rattle.store.proofs.Laws.{undamaged}
 use Rattle.ledger.specs.Ledger.{heard_at}
 use Rattle.ledger.proofs.Entries.{source_slot_free, source_slot_used, source_slot_stands}

@@ -1,7 +1,7 @@
 -- `reckon` hears one slot after the other. Assumes nothing.
 -- with the sources from slot i on they come to what all sources make of them; and no sum is too large
 use mathlib.Core.Path.{sym, ◌∙◌, subst}
-use Prim.Native.Nat.{◌+◌, ◌-◌, ◌<◌}
+use Prim.Native.Nat.{◌+◌, ◌<◌}
 use native.Mathlib.Omega.{arith}
 use lib.ListN.{get_or}
 use mathlib.Core.List.{List}

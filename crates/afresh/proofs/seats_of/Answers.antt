@@ -1,6 +1,5 @@
 -- `seats_of` takes the seat of each. Assumes nothing.
 use mathlib.Core.Path.{refl, sym}
-use Prim.Native.Nat.{◌-◌}
 use native.Mathlib.Omega.{arith}
 use mathlib.Core.Option.{none}
 use Rattle.ledger.specs.declared.Tally.{Tally}

@@ -1,5 +1,4 @@
 -- `column` picks the column of table 3. Assumes nothing.
-use Prim.Native.Nat.{◌-◌}
 use native.Mathlib.Omega.{arith}
 use borrow.Author.Tests.{lt-ltb, le-ltb}
 use Rattle.emission.proofs.column.Goals as goal

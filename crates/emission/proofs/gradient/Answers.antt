@@ -1,5 +1,5 @@
 -- `gradient` adds from 51 tenths on. Assumes nothing.
-use Prim.Native.Nat.{◌-◌, ◌%◌}
+use Prim.Native.Nat.{◌%◌}
 use native.Mathlib.Omega.{arith}
 use borrow.Author.Tests.{lt-ltb, le-ltb}
 use Rattle.road.specs.Emission.{gradient_term}

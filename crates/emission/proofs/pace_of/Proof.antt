@@ -1,12 +1,11 @@
 -- `pace_of` works out what speed gives: speeds are brought into range, and a truck is no quieter than a car. Assumes nothing.
-use mathlib.Core.Path.{◌≡◌, refl, sym, ap, ap₂, ◌∙◌}
-use Prim.Native.Nat.{ℕ, ◌+◌, ◌-◌, ◌*◌, ◌/◌, ◌≤◌, ◌<◌}
+use mathlib.Core.Path.{◌≡◌, ap, ap₂, ◌∙◌}
+use Prim.Native.Nat.{ℕ, ◌-◌}
 use native.Mathlib.Omega.{arith}
 use borrow.Author.Rules.{rules}
 use Rattle.level.specs.Level.{energy_of}
 use Rattle.level.proofs.Laws.{energy_least}
 use Rattle.road.specs.Emission.{car_speed, truck_speed, car_level, truck_level, truck_gain}
-use Rattle.road.specs.declared.Pace.{Pace}
 use Rattle.road.proofs.Bounds.{gain_small}
 use Rattle.road.proofs.Fit.{fit_source}
 use Rattle.emission.proofs.pace_of.Statement.{statement}

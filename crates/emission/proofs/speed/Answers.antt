@@ -1,7 +1,7 @@
 -- `speed` is equation 9, for a car's level and a truck's gain that have been worked out. Assumes nothing.
 -- the trucks' part of the energy
 use mathlib.Core.Path.{ap₂}
-use Prim.Native.Nat.{ℕ, ◌+◌, ◌-◌, ◌*◌, ◌≤◌, ◌<◌}
+use Prim.Native.Nat.{ℕ, ◌+◌, ◌*◌, ◌≤◌, ◌<◌}
 use native.Mathlib.Omega.{arith}
 use Rattle.road.specs.Term.{term}
 use Rattle.road.specs.Limits.{all_trucks}

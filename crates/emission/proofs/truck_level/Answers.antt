@@ -1,6 +1,6 @@
 -- `truck_level` is a truck's level: the fifth power of a speed up to 80 keeps every number small. Assumes nothing.
 use mathlib.Core.Path.{ap}
-use Prim.Native.Nat.{ℕ, ◌+◌, ◌-◌, ◌/◌}
+use Prim.Native.Nat.{ℕ, ◌+◌, ◌/◌}
 use native.Mathlib.Omega.{arith}
 use Rattle.road.specs.Emission.{truck_level}
 use Rattle.road.proofs.Bounds.{fifth}

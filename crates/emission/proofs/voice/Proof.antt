@@ -1,13 +1,11 @@
 -- `voice` adds up what one period's traffic sends out; without traffic there is no voice. Assumes nothing.
-use mathlib.Core.Path.{◌≡◌, refl, sym, ap, ap₂, ◌∙◌}
-use Prim.Native.Nat.{ℕ, ◌+◌, ◌-◌, ◌*◌, ◌/◌, ◌≤◌, ◌<◌}
+use mathlib.Core.Path.{ap₂}
 use mathlib.Core.Bool.{true}
 use native.Mathlib.Omega.{arith}
 use borrow.Author.Rules.{rules}
 use native.Mathlib.Nat.{pos_of_ne-zero}
 use borrow.Author.Tests.{eq-eqb, ne_eqb}
 use Rattle.road.specs.declared.Term.{Term}
-use Rattle.road.specs.declared.Voice.{Voice}
 use Rattle.road.specs.Term.{◌⊕◌}
 use Rattle.road.proofs.Sums.{Small, weighed, small_traffic, small_speed}
 use Rattle.emission.proofs.voice.Statement.{statement}

@@ -1,7 +1,7 @@
 -- `voices` works out the three periods from what is the same for all of them. Assumes nothing.
 -- pace and steady terms that are the source's are small
 use mathlib.Core.Path.{◌≡◌, ap₂, ◌∙◌}
-use Prim.Native.Nat.{ℕ, ◌-◌}
+use Prim.Native.Nat.{ℕ}
 use mathlib.Core.List.{[], ◌∷◌}
 use Rattle.road.specs.declared.Source.{Source}
 use Rattle.road.specs.declared.Term.{Term}

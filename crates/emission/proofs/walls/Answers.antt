@@ -1,5 +1,4 @@
 -- `walls` adds up to its most for walls that reflect and for those that absorb. Assumes nothing.
-use Prim.Native.Nat.{◌-◌}
 use native.Mathlib.Omega.{arith}
 use borrow.Author.Tests.{eq-eqb, ne_eqb}
 use Rattle.road.specs.Reach.{walls_term}

@@ -1,6 +1,5 @@
 -- `in_tenths` brings a level to tenths. Assumes nothing.
 use mathlib.Core.Path.{sym, ap}
-use Prim.Native.Nat.{◌-◌}
 use native.Mathlib.Omega.{arith}
 use Rattle.index.specs.Index.{level_in, tenths_of}
 use Rattle.index.proofs.in_tenths.Goals as goal

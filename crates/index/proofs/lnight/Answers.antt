@@ -1,6 +1,5 @@
 -- `lnight` is the level of the night's sum. Assumes nothing.
 use mathlib.Core.Path.{ap, ◌∙◌}
-use Prim.Native.Nat.{◌-◌}
 use Rattle.index.specs.Index.{tenths_of}
 use Rattle.index.proofs.Laws.{level_any}
 use Rattle.index.proofs.lnight.Goals as goal

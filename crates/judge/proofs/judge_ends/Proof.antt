@@ -1,11 +1,8 @@
 -- `judge_ends` refuses the first coordinate outside its limits; then the length is judged.
 -- Assumes nothing.
-use Prim.Native.Nat.{ℕ, ◌≤◌}
+use Prim.Native.Nat.{ℕ}
 use mathlib.Core.Path.{◌≡◌, ap, ◌∙◌}
 use native.Mathlib.Omega.{arith}
-use lib.ListN.{length}
-use Rattle.course.specs.declared.Ends.{Ends}
-use Rattle.course.specs.Course.{Mapped}
 use Rattle.layout.specs.Bounds.{first_outside}
 use Rattle.answer.specs.declared.Refusal.TheVariants.{Field}
 use Rattle.road.specs.Fields.{ends_table, length_table, least_by, most_by}

@@ -1,6 +1,5 @@
 -- `join` copies the fields after kind and slot. After i rounds the first i of them stand there, and zeros after them.
 -- Assumes nothing.
-use Prim.Native.Nat.{◌-◌}
 use mathlib.Core.Path.{refl}
 use native.Mathlib.Omega.{arith}
 use lib.ListN.{replicate}

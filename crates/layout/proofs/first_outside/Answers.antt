@@ -1,5 +1,4 @@
 -- `first_outside` meets its contract. The first i values are inside, and the search goes on in the rest. Assumes nothing.
-use Prim.Native.Nat.{◌-◌}
 use native.Mathlib.Omega.{arith}
 use Rattle.layout.proofs.Bounds.{outside_more, outside_low, outside_high, outside_end}
 use Rattle.layout.proofs.first_outside.Goals as goal

@@ -1,7 +1,7 @@
 -- `lay` writes value after value: those from i on are left, and all of them written is the promise.
 -- Assumes nothing.
 -- what is left to write, over what stands
-use Prim.Native.Nat.{ℕ, ◌+◌, ◌-◌, ◌≤◌, ◌<◌}
+use Prim.Native.Nat.{ℕ, ◌+◌, ◌≤◌, ◌<◌}
 use mathlib.Core.Path.{◌≡◌, refl, sym, ap, ◌∙◌}
 use mathlib.Core.List.{List, ◌∷◌}
 use native.Mathlib.Nat.{add-zero, add_assoc}

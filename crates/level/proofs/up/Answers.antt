@@ -1,7 +1,7 @@
 -- `up` stays at or below the level of the sum, and stops where the next level's energy is above the sum. Assumes nothing.
 -- a level that the sum has reached, and the next not, is its own
 use mathlib.Core.Path.{◌≡◌}
-use Prim.Native.Nat.{ℕ, ◌+◌, ◌-◌, ◌<◌, ◌≤◌}
+use Prim.Native.Nat.{ℕ, ◌+◌, ◌<◌, ◌≤◌}
 use native.Mathlib.Omega.{arith}
 use Rattle.level.specs.Level.{energy_of, level_of}
 use Rattle.level.proofs.Laws.{level_below, level_at_least}

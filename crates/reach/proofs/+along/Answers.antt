@@ -1,21 +1,21 @@
 -- `along` by recursion: the number that falls is the road's length. A long road's halves are shorter, and the rules for a road that is
 -- cut and for one that is not say that the result is the definition's. Assumes nothing.
 use mathlib.Core.Path.{◌≡◌, sym, ap, ap₂, ◌∙◌, subst⁻¹}
-use mathlib.Core.Bool.{Bool, true, false}
+use mathlib.Core.Bool.{Bool}
 use mathlib.Core.List.{[], ◌∷◌}
 use Prim.Native.Nat.{ℕ, ◌+◌, ◌-◌, ◌≤◌, ◌<◌}
 use native.Mathlib.Omega.{arith}
 use Rattle.course.specs.declared.Piece.{Piece}
 use Rattle.course.specs.declared.Ends.{Ends}
 use Rattle.course.specs.declared.Lengths.{Lengths}
-use Rattle.course.specs.Course.{square, length_of, one_piece, first_half, second_half, too_long, long, pieces_between, Mapped}
+use Rattle.course.specs.Course.{square, length_of, one_piece, too_long, long, pieces_between, Mapped}
 use Rattle.screen.specs.Screen.{walls_of}
 use Rattle.road.specs.declared.Receiver.{Receiver}
 use Rattle.road.specs.Limits.{longest}
 use Rattle.road.specs.Pairs.{Mild}
 use Rattle.road.specs.Reach.{source_height, plan_square, space_square, two_walls, pair_over}
 use Rattle.road.specs.Inner.{share_by, joined}
-use Rattle.road.proofs.Fit.{FitPiece, FitEnds, FitReceiver, fit_one, fit_receiver}
+use Rattle.road.proofs.Fit.{FitPiece, fit_one, fit_receiver}
 use Rattle.road.proofs.Pairs.{over_bounded}
 use Rattle.reach.proofs.Laws.{plan_most, space_is, far, Halved, first_halved, second_halved, over_cut, over_uncut}
 use Rattle.reach.proofs.+along.Goals as goal

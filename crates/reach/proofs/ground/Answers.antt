@@ -1,6 +1,6 @@
 -- `ground` takes off 4.80 dB less what a high ray gives back, never below nothing. Assumes nothing.
 use mathlib.Core.Path.{refl}
-use Prim.Native.Nat.{◌+◌, ◌-◌, ◌*◌}
+use Prim.Native.Nat.{◌+◌, ◌*◌}
 use native.Mathlib.Omega.{arith}
 use native.Mathlib.Nat.{mul-pos}
 use Rattle.road.specs.Reach.{ground_term}

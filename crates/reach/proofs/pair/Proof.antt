@@ -3,13 +3,10 @@ use mathlib.Core.Path.{◌≡◌, sym, ap, ◌∙◌, subst, subst⁻¹}
 use mathlib.Core.List.{List, [], ◌∷◌}
 use borrow.Author.Rules.{rules}
 use Rattle.course.specs.declared.Piece.{Piece}
-use Rattle.course.specs.declared.Course.{Course}
 use Rattle.course.specs.Course.{whole_of}
 use Rattle.screen.specs.Screen.{walls_of}
 use Rattle.road.specs.Reach.{length_term, pieces_for, shares_over, first_bar, any_of, unless_walls, unless_loud, unless_barred, share_of, pair_over, two_walls, pair_of}
-use Rattle.road.specs.Inner.{voices_of, share_by, Moderate}
-use Rattle.road.specs.declared.Source.{Source}
-use Rattle.road.specs.declared.Receiver.{Receiver}
+use Rattle.road.specs.Inner.{share_by, Moderate}
 use Rattle.road.proofs.Fit.{FitSource, FitCourse, FitPiece, fit_source, fit_whole}
 use Rattle.road.proofs.Sums.{moderate}
 use Rattle.road.proofs.Pairs.{shares_by}

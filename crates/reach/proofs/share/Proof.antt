@@ -1,12 +1,11 @@
 -- `share` is the energy of a voice's level at a point, below zero too, and too loud above 90 dB. Assumes nothing.
-use mathlib.Core.Path.{◌≡◌, refl, sym, ap, ap₂, ◌∙◌}
-use Prim.Native.Nat.{ℕ, ◌+◌, ◌-◌, ◌*◌, ◌/◌, ◌≤◌, ◌<◌}
+use mathlib.Core.Path.{◌≡◌, sym, ap, ◌∙◌}
+use Prim.Native.Nat.{ℕ, ◌+◌, ◌≤◌}
 use native.Mathlib.Omega.{arith}
 use borrow.Author.Rules.{rules}
-use mathlib.Core.Bool.{Bool, true, false}
+use mathlib.Core.Bool.{true, false}
 use Rattle.road.specs.declared.Term.{Term}
 use Rattle.road.specs.declared.Voice.{Voice}
-use Rattle.road.specs.declared.Part.{Part}
 use Rattle.road.specs.Term.{◌⊕◌}
 use Rattle.road.specs.Reach.{weather_term}
 use Rattle.road.proofs.Sums.{part_silent, part_loud, part_heard}

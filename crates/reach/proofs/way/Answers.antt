@@ -1,6 +1,6 @@
 -- `way` adds up distance, air, and ground or walls. Assumes nothing.
 use mathlib.Core.Path.{ap₂}
-use Prim.Native.Nat.{ℕ, ◌+◌, ◌-◌, ◌/◌}
+use Prim.Native.Nat.{ℕ, ◌+◌, ◌/◌}
 use native.Mathlib.Omega.{arith}
 use Rattle.road.specs.Term.{term}
 use Rattle.road.specs.Reach.{distance_term, obstacle_term}

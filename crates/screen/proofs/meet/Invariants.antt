@@ -1,5 +1,4 @@
 -- `meet` looks at one wall after the other. Assumes nothing.
-use Prim.Native.Nat.{◌-◌}
 use Rattle.screen.proofs.Lists.{Going}
 use Rattle.screen.proofs.meet.Given as goal
 

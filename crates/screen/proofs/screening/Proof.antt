@@ -1,6 +1,5 @@
 -- `screening` cuts the section at a wall that counts. Assumes nothing.
 use mathlib.Core.Path.{◌≡◌, sym, ap, ◌∙◌, subst}
-use Prim.Native.Nat.{ℕ, ◌≤◌}
 use native.Mathlib.Omega.{arith}
 use borrow.Author.Rules.{rules}
 use Rattle.screen.specs.declared.plan.Ratio.{Ratio}

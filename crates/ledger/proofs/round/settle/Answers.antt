@@ -2,10 +2,10 @@
 -- a store with the receivers of one seat or the other
 use borrow.Author.Tests.{not-true, not-false}
 use mathlib.Core.Path.{sym, ap, ◌∙◌}
-use Prim.Native.Nat.{ℕ, ◌-◌}
+use Prim.Native.Nat.{ℕ}
 use mathlib.Core.List.{List}
 use mathlib.Core.Option.{some}
-use mathlib.Core.Bool.{Bool, true, false, cond}
+use mathlib.Core.Bool.{Bool, cond}
 use lib.ListN.{set}
 use Rattle.store.specs.declared.Held.{Held}
 use Rattle.store.specs.Store.{book, book_of, book_bytes}

@@ -1,6 +1,6 @@
 -- `crosses` looks on which sides of the wall the two points lie, and then on which sides of the plan line the wall's ends. Assumes nothing.
 use mathlib.Core.Path.{sym, ap, ◌∙◌}
-use mathlib.Core.Bool.{true, false, not}
+use mathlib.Core.Bool.{not}
 use Rattle.screen.specs.Plan.{opposite, beside}
 use Rattle.screen.proofs.Lines.{counts_not, counts_by_lem}
 use Rattle.screen.proofs.plan.crosses.Goals as goal

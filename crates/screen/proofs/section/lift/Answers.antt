@@ -4,7 +4,7 @@ use Prim.Native.Nat.{ℕ, ◌*◌, ◌/◌, ◌≤◌, ◌<◌}
 use native.Mathlib.Omega.{arith}
 use native.Mathlib.Nat.{mul-pos}
 use Rattle.screen.specs.declared.section.Section.{Section}
-use Rattle.screen.specs.Section.{gamma, lift}
+use Rattle.screen.specs.Section.{lift}
 use Rattle.screen.proofs.Bounds.{times}
 use Rattle.screen.proofs.Heights.{gamma_is, flat_most}
 use Rattle.screen.proofs.section.lift.Goals as goal

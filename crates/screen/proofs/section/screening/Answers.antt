@@ -1,7 +1,7 @@
 -- `screening` takes nothing off where the edge is below the ray. Assumes nothing.
 use mathlib.Core.Path.{sym, ap, ◌∙◌}
 use native.Mathlib.Omega.{arith}
-use Rattle.screen.specs.Section.{lift, Dz}
+use Rattle.screen.specs.Section.{Dz}
 use Rattle.screen.proofs.Heights.{through_most, z_most, screening_none, screening_some}
 use Rattle.screen.proofs.section.screening.Goals as goal
 
