@@ -1,16 +1,14 @@
 -- `with_digit` adds a digit behind the number where all of it is below 2^64.
 -- Assumes nothing.
+-- no digit
 use Prim.Native.Nat.{ℕ, ◌+◌, ◌-◌, ◌*◌, ◌^◌, ◌≤◌, ◌<◌}
 use mathlib.Core.Path.{◌≡◌}
 use native.Mathlib.Omega.{arith}
-use borrow.Author.Rules.{rules}
 use borrow.Author.Tests.{lt-ltb, le-ltb}
 use Rattle.longhand.specs.declared.reading.Reading.TheVariants.{Number, Wrong}
 use Rattle.longhand.specs.Reading.{with_digit}
-use Rattle.longhand.proofs.reading.with_digit.Statement.{statement}
-use Rattle.longhand.proofs.reading.with_digit.Tie as tie
+use Rattle.longhand.proofs.reading.with_digit.Goals as goal
 
--- no digit
 under : (q b : ℕ) → b < 48 → Wrong ≡ with_digit q b
 unfolding with_digit
 under q b h = rw (lt-ltb b 48 h)
@@ -29,30 +27,14 @@ module _ (q b : ℕ) (h : 48 ≤ b) (k : b ≤ 57) where
   unfolding with_digit
   longer l = rw (le-ltb b 48 h, le-ltb 57 b k, lt-ltb (q * 10 + (b - 48)) (2 ^ 64) l)
 
-returns : tie.Need-returns
-returns c = under _ _ c.if1.true
+pub returns-then-byte-lt48 : goal.returns-then-byte-lt48
+returns-then-byte-lt48 c = under _ _ c.if-byte-lt48.true
 
-returns-2 : tie.Need-returns-2
-returns-2 c = beyond _ _ c.before.if1.false c.if2.true
+pub returns-then-byte-gt57 : goal.returns-then-byte-gt57
+returns-then-byte-gt57 c = beyond _ _ c.if-byte-lt48.false c.if-byte-gt57.true
 
-cast-digit : tie.Need-overflow-cast-digit
-cast-digit c = search rules
+pub returns-then-digit-q : goal.returns-then-digit-q
+returns-then-digit-q c = too_large _ _ c.if-byte-lt48.false c.if-byte-gt57.false (omega arith)
 
-sub-if3 : tie.Need-overflow-sub-if3
-sub-if3 c = search rules
-
-returns-3 : tie.Need-returns-3
-returns-3 c = too_large _ _ c.before.before.if1.false c.before.if2.false (omega arith)
-
-mul-t6 : tie.Need-overflow-mul-t6
-mul-t6 c = search rules
-
-add-t7 : tie.Need-overflow-add-t7
-add-t7 c = search rules
-
-returns-4 : tie.Need-returns-4
-returns-4 c = longer _ _ c.before.before.if1.false c.before.if2.false (omega arith)
-
-pub with_digit_spec : {M : Type 1} → statement M
-with_digit_spec =
-    tie.close (tie.spec returns returns-2 cast-digit sub-if3 returns-3 mul-t6 add-t7 returns-4)
+pub returns : goal.returns
+returns c = longer _ _ c.if-byte-lt48.false c.if-byte-gt57.false (omega arith)
