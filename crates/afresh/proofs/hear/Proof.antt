@@ -3,7 +3,6 @@ use mathlib.Core.Path.{◌≡◌, refl, sym, ap, subst, ◌∙◌}
 use Prim.Native.Nat.{ℕ}
 use mathlib.Core.Bool.{Bool, true, cond}
 use borrow.Author.Rules.{rules}
-use borrow.Author.Tests.{not-true, not-false}
 use Rattle.screen.specs.Screen.{walls_of}
 use Rattle.road.specs.declared.Pair.{Pair}
 use Rattle.road.specs.Reach.{pair_of}
@@ -15,7 +14,7 @@ use Rattle.afresh.proofs.hear.Tie as tie
 
 -- somebody is in the seat
 used : (c : tie.Else-not-seat) → c.args.t.seat.used ≡ true
-used c = not-false _ c.if-not-seat.false
+used c = c.if-not-seat.false
 
 -- with the pair that was worked out
 by_pair : (c : tie.After-pair) (q : Pair) → c.pair.result ≡ q → let a = c.args in
@@ -28,7 +27,7 @@ by_pair c q e =
 returns : tie.Need-returns-then-not-seat
 returns c =
     let a = c.args in
-    sym (ap (λ (b : Bool). cond b (heard_by (pair_of (walls_of a.walls.now) a.s a.t.seat.held.who) a.t) a.t) (not-true a.t.seat.used c.if-not-seat.true))
+    sym (ap (λ (b : Bool). cond b (heard_by (pair_of (walls_of a.walls.now) a.s a.t.seat.held.who) a.t) a.t) c.if-not-seat.true)
 
 pair-requires : tie.Need-pair-requires
 pair-requires c κs =

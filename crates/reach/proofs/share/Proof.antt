@@ -4,7 +4,6 @@ use Prim.Native.Nat.{ℕ, ◌+◌, ◌-◌, ◌*◌, ◌/◌, ◌≤◌, ◌<◌
 use native.Mathlib.Omega.{arith}
 use borrow.Author.Rules.{rules}
 use mathlib.Core.Bool.{Bool, true, false}
-use borrow.Author.Tests.{not-true, not-false}
 use Rattle.road.specs.declared.Term.{Term}
 use Rattle.road.specs.declared.Voice.{Voice}
 use Rattle.road.specs.declared.Part.{Part}
@@ -18,7 +17,7 @@ use Rattle.reach.proofs.share.Tie as tie
 returns : tie.Need-returns-then-not-v
 returns c =
     let a = c.args in
-    sym (part_silent a.v (a.way ⊕ weather_term a.c a.h a.near) (not-true _ c.if-not-v.true))
+    sym (part_silent a.v (a.way ⊕ weather_term a.c a.h a.near) c.if-not-v.true)
 
 add-up : tie.Need-overflow_add-up
 add-up c = search rules
@@ -47,7 +46,7 @@ module _ (c : tie.After-weather) where
   down = v.level.down + start.args.way.down + c.weather.result
 
   sounds : v.sounds ≡ true
-  sounds = not-false _ c.if-not-v.false
+  sounds = c.if-not-v.false
 
   up_is : up ≡ v.level.up + t.up
   unfolding weather_term

@@ -5,7 +5,6 @@ use mathlib.Core.Option.{Option, none}
 use mathlib.Core.Bool.{true}
 use Prim.Native.Nat.{ℕ}
 use borrow.Author.Rules.{rules}
-use borrow.Author.Tests.{not-true, not-false}
 use Rattle.road.specs.declared.Source.{Source}
 use Rattle.store.specs.Store.{book_of, SourceStands}
 use Rattle.store.proofs.Laws.{undamaged}
@@ -33,7 +32,7 @@ returns : tie.Need-returns-then-not-source_slot
 returns c =
     let t = c.before.before in
     let start = t.before.before.before in
-    ap (out start) (sym (source_slot_free start.args.store.now start.args.i start.requires.1 start.requires.2 t.source_slot-source_slot.result t.source_slot-source_slot.ensures (not-true _ c.if-not-source_slot.true)))
+    ap (out start) (sym (source_slot_free start.args.store.now start.args.i start.requires.1 start.requires.2 t.source_slot-source_slot.result t.source_slot-source_slot.ensures c.if-not-source_slot.true))
 
 -- the slot is used, and by a source that may be there
 there : (t : tie.After-source_slot-source_slot) → t.source_slot-source_slot.result.used ≡ true → SourceStands t.source_slot-source_slot.result.source
@@ -45,7 +44,7 @@ sends-requires : tie.Need-sends-goes-requires
 sends-requires c κs =
     let t = c.before.before in
     let start = t.before.before.before in
-    (start.requires.0, (there t (not-false _ c.if-not-source_slot.false)).0)
+    (start.requires.0, (there t c.if-not-source_slot.false).0)
 
 nobody-requires : tie.Need-nobody-comes-requires
 nobody-requires c κs = search rules
@@ -56,7 +55,7 @@ change-source-requires c κs =
     let f = n.before.before in
     let t = f.before.before in
     let start = t.before.before.before in
-    let used = not-false _ f.if-not-source_slot.false in
+    let used = f.if-not-source_slot.false in
     let is = source_slot_used start.args.store.now start.args.i start.requires.1 start.requires.2 t.source_slot-source_slot.result t.source_slot-source_slot.ensures used in (
       start.requires.0,
       start.requires.1,
@@ -77,7 +76,7 @@ returns-2 c =
     let t = f.before.before in
     let start = t.before.before.before in
     let s = start.args.store.now in
-    let used = source_slot_used s start.args.i start.requires.1 start.requires.2 t.source_slot-source_slot.result t.source_slot-source_slot.ensures (not-false _ f.if-not-source_slot.false) in
+    let used = source_slot_used s start.args.i start.requires.1 start.requires.2 t.source_slot-source_slot.result t.source_slot-source_slot.ensures f.if-not-source_slot.false in
     p.change_source.ensures ∙ ap (λ (o : Option Source). told s (change_source start.args.i o (book_of s))) (ap source_of n.nobody-comes.ensures) ∙ ap (out start) (sym used)
 
 pub leave_source_spec : {M : Type 1} → statement M

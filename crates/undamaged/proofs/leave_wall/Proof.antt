@@ -5,7 +5,6 @@ use mathlib.Core.Option.{Option, none}
 use Prim.Native.Nat.{ℕ}
 use native.Mathlib.Omega.{arith}
 use borrow.Author.Rules.{rules}
-use borrow.Author.Tests.{not-true, not-false}
 use Rattle.screen.specs.declared.Wall.{Wall}
 use Rattle.store.specs.Store.{book_of}
 use Rattle.store.proofs.Laws.{undamaged}
@@ -31,7 +30,7 @@ returns : tie.Need-returns-then-not-wall_slot
 returns c =
     let t = c.before.before in
     let start = t.before.before.before in
-    ap (out start) (sym (wall_slot_free start.args.store.now start.args.k start.requires.1 start.requires.2 t.wall_slot-wall_slot.result t.wall_slot-wall_slot.ensures (not-true _ c.if-not-wall_slot.true)))
+    ap (out start) (sym (wall_slot_free start.args.store.now start.args.k start.requires.1 start.requires.2 t.wall_slot-wall_slot.result t.wall_slot-wall_slot.ensures c.if-not-wall_slot.true))
 
 change-wall-requires : tie.Need-change_wall-requires
 change-wall-requires c κs =
@@ -46,7 +45,7 @@ returns-2 c =
     let p = c.before.before in
     let t = p.before.before.before.before in
     let start = t.before.before.before in
-    let used = wall_slot_used start.args.store.now start.args.k start.requires.1 start.requires.2 t.wall_slot-wall_slot.result t.wall_slot-wall_slot.ensures (not-false _ p.if-not-wall_slot.false) in
+    let used = wall_slot_used start.args.store.now start.args.k start.requires.1 start.requires.2 t.wall_slot-wall_slot.result t.wall_slot-wall_slot.ensures p.if-not-wall_slot.false in
     p.change_wall.ensures ∙ ap (out start) (sym used)
 
 pub leave_wall_spec : {M : Type 1} → statement M
