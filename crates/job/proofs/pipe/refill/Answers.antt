@@ -12,7 +12,7 @@ returns-then-over-to c =
 
 pub fetch-requires : goal.fetch-requires
 fetch-requires c =
-    omega (arith, short_of c.args.over (c.args.to - c.args.from) c.if-over-to.false, c.hold.auto.0, c.requires.2)
+    omega (arith, short_of c.args.over (c.args.to - c.args.from) c.if-over-to.false, c.hold.auto.input, c.requires.2)
 
 pub returns : goal.returns
 returns c =

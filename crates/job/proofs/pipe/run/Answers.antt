@@ -13,13 +13,13 @@ pub finish-last-requires : goal.finish-last-requires
 finish-last-requires c = omega (arith, c.loop-turns.invariant.same_output, c.requires.4)
 
 pub shape_of-store-then-s-2 : goal.shape_of-store-then-s-2
-shape_of-store-then-s-2 c = c.loop-turns.invariant.same_store ∙ c.clear.auto.0
+shape_of-store-then-s-2 c = c.loop-turns.invariant.same_store ∙ c.clear.auto.store
 
 pub shape_of-input-then-s-2 : goal.shape_of-input-then-s-2
 shape_of-input-then-s-2 c = c.loop-turns.invariant.same_input
 
 pub shape_of-output-then-s-2 : goal.shape_of-output-then-s-2
-shape_of-output-then-s-2 c = c.finish-last.auto.0 ∙ c.loop-turns.invariant.same_output
+shape_of-output-then-s-2 c = c.finish-last.auto.output ∙ c.loop-turns.invariant.same_output
 
 pub returns-then-s-2 : goal.returns-then-s-2
 returns-then-s-2 c =
@@ -46,10 +46,10 @@ loop-turns-smaller c = omega (arith, c.loop-turns-test.true)
 pub loop-turns-preserved : goal.loop-turns-preserved
 loop-turns-preserved c =
     running_on _ _ _ c.loop-turns.store c.loop-turns.input c.loop-turns.output c.loop-turns.s c.loop-turns.turns _ c.turn-s.result _ _ _ c.loop-turns.invariant (omega (arith, c.loop-turns-test.true))
-    c.turn-s.auto.1.0 c.turn-s.auto.1.1.0 c.turn-s.auto.1.1.1.0 c.turn-s.ensures
+    c.turn-s.auto.store c.turn-s.auto.input c.turn-s.auto.output c.turn-s.ensures
 
 pub shape_of-store : goal.shape_of-store
-shape_of-store c = c.loop-turns.invariant.same_store ∙ c.clear.auto.0
+shape_of-store c = c.loop-turns.invariant.same_store ∙ c.clear.auto.store
 
 pub shape_of-input : goal.shape_of-input
 shape_of-input c = c.loop-turns.invariant.same_input

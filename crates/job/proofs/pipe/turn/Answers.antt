@@ -9,7 +9,7 @@ returns-then-hand c =
 
 pub advance-requires : goal.advance-requires
 advance-requires c =
-    (c.requires.0, c.requires.1, c.refill-hand.ensures.ordered, c.refill-hand.ensures.within, omega (arith, c.requires.5, c.refill-hand.auto.0), c.requires.6)
+    (c.requires.0, c.requires.1, c.refill-hand.ensures.ordered, c.refill-hand.ensures.within, omega (arith, c.requires.5, c.refill-hand.auto.input), c.requires.6)
 
 pub returns : goal.returns
 returns c =
