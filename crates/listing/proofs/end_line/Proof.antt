@@ -19,17 +19,17 @@ put-text-requires c κs = search rules
 
 -- the start, from after END and the count
 abbrev start₁ : tie.After-put_text-at → tie.Start
-start₁ c = c.before.before.before.before.before
+start₁ c = c.before.before.before.before.before.before
 
 abbrev start₂ : tie.After-put_decimal-at → tie.Start
 start₂ c = start₁ c.before.before.before.before
 
 -- the line so far
-begun : (c : tie.After-put_text-at) → Part 0 64 4 (69 ∷ 78 ∷ 68 ∷ 32 ∷ []) (start₁ c).args.out.now c.put_text-at.result c.put_text-at.new.0
+begun : (c : tie.After-put_text-at) → Part 0 64 4 (69 ∷ 78 ∷ 68 ∷ 32 ∷ []) (start₁ c).args.out.now c.put_text-at.result c.put_text-at.new.out
 begun c = record { space = c.if-out-lt-LINE_ROOM.false; wrote = c.put_text-at.ensures; most = omega arith }
 
 counted : (c : tie.After-put_decimal-at) → let a = (start₂ c).args in
-    Part 0 64 24 ((69 ∷ 78 ∷ 68 ∷ 32 ∷ []) ++ decimal a.n) a.out.now c.put_decimal-at.result c.put_decimal-at.new.0
+    Part 0 64 24 ((69 ∷ 78 ∷ 68 ∷ 32 ∷ []) ++ decimal a.n) a.out.now c.put_decimal-at.result c.put_decimal-at.new.out
 counted c =
     let n = (start₂ c).args.n in
     next (begun c.before.before.before.before) 20 (omega arith) (decimal n) _ _ (length_count n (start₂ c).ranges.n.fits) c.put_decimal-at.ensures
@@ -38,7 +38,7 @@ put-decimal-requires : tie.Need-put_decimal-at-requires
 put-decimal-requires c κs = room (begun c.before.before.before) 20 (omega arith)
 
 put-text-requires-2 : tie.Need-put_text-requires
-put-text-requires-2 c κs = room (counted c.before.before.before.before) 1 (omega arith)
+put-text-requires-2 c κs = room (counted c.before.before.before.before.before) 1 (omega arith)
 
 same_length : tie.Need-shape_of-out
 same_length c = search rules
@@ -47,7 +47,7 @@ returns-2 : tie.Need-returns
 unfolding end_line
 returns-2 c =
     let m = c.before.before.before.before.before.before.before in
-    whole_line (next (counted m) 1 (omega arith) (10 ∷ []) _ _ (omega arith) c.put_text.ensures)
+    whole_line (next (counted m.before) 1 (omega arith) (10 ∷ []) _ _ (omega arith) c.put_text.ensures)
 
 pub end_line_spec : {M : Type 1} → statement M
 end_line_spec =

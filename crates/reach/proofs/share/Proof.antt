@@ -11,13 +11,14 @@ use Rattle.road.specs.Term.{◌⊕◌}
 use Rattle.road.specs.Reach.{weather_term}
 use Rattle.road.proofs.Sums.{part_silent, part_loud, part_heard}
 use Rattle.road.proofs.Pairs.{weather_most}
+use borrow.Author.Tests.{not-true, not-false}
 use Rattle.reach.proofs.share.Statement.{statement}
 use Rattle.reach.proofs.share.Tie as tie
 
 returns : tie.Need-returns-then-not-v
 returns c =
     let a = c.args in
-    sym (part_silent a.v (a.way ⊕ weather_term a.c a.h a.near) c.if-not-v.true)
+    sym (part_silent a.v (a.way ⊕ weather_term a.c a.h a.near) (not-true _ c.if-not-v.true))
 
 add-up : tie.Need-overflow_add-up
 add-up c = search rules
@@ -46,7 +47,7 @@ module _ (c : tie.After-weather) where
   down = v.level.down + start.args.way.down + c.weather.result
 
   sounds : v.sounds ≡ true
-  sounds = c.if-not-v.false
+  sounds = not-false _ c.if-not-v.false
 
   up_is : up ≡ v.level.up + t.up
   unfolding weather_term

@@ -3,7 +3,7 @@
 use mathlib.Core.Path.{sym, ap, ◌∙◌}
 use Prim.Native.Nat.{ℕ, ◌-◌, ◌≤◌}
 use mathlib.Core.Option.{Option}
-use borrow.Author.Tests.{leb-true}
+use borrow.Author.Tests.{leb-true, not-true, not-false}
 use Rattle.store.specs.declared.Held.{Held}
 use Rattle.level.specs.Level.{top}
 use Rattle.store.proofs.Laws.{undamaged}
@@ -26,12 +26,12 @@ seat-seat-requires c = (c.requires.2, (undamaged c.args.store.now c.requires.1).
 
 pub returns-then-not-seat : goal.returns-then-not-seat
 returns-then-not-seat c =
-    let free = seat_free c.args.store.now c.args.j c.requires.1 c.requires.2 c.seat-seat.result c.seat-seat.ensures c.if-not-seat.true in
+    let free = seat_free c.args.store.now c.args.j c.requires.1 c.requires.2 c.seat-seat.result c.seat-seat.ensures (not-true _ c.if-not-seat.true) in
     ap (λ (o : Option Held). told c.args.store.now (from_used o (λ (x : Held). tell (Levels (lden_of x.sums.day x.sums.evening x.sums.night) (lnight_of x.sums.night))))) (sym free)
 
 pub lden-den-requires : goal.lden-den-requires
 lden-den-requires c =
-    let st = seat_stands c.args.store.now c.args.j c.requires.1 c.requires.2 c.seat-seat.result c.seat-seat.ensures c.if-not-seat.false in
+    let st = seat_stands c.args.store.now c.args.j c.requires.1 c.requires.2 c.seat-seat.result c.seat-seat.ensures (not-false _ c.if-not-seat.false) in
     let a = and_both _ _ st.1 in
     let b = and_both _ _ a.0 in
     (c.requires.0, leb-true _ _ b.0, leb-true _ _ b.1, leb-true _ _ a.1, c.level-late.ensures)
@@ -41,6 +41,6 @@ lnight-night-requires c = c.level-late.ensures
 
 pub returns : goal.returns
 returns c =
-    let used = seat_used c.args.store.now c.args.j c.requires.1 c.requires.2 c.seat-seat.result c.seat-seat.ensures c.if-not-seat.false in
+    let used = seat_used c.args.store.now c.args.j c.requires.1 c.requires.2 c.seat-seat.result c.seat-seat.ensures (not-false _ c.if-not-seat.false) in
     (λ i. (Levels (c.lden-den.ensures i) (c.lnight-night.ensures i), c.args.store.now))
     ∙ ap (λ (o : Option Held). told c.args.store.now (from_used o (λ (x : Held). tell (Levels (lden_of x.sums.day x.sums.evening x.sums.night) (lnight_of x.sums.night))))) (sym used)

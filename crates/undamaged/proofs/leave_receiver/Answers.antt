@@ -1,5 +1,6 @@
 -- `leave_receiver` makes a used slot all zero. Assumes nothing.
 -- what a withdrawal says of a slot
+use borrow.Author.Tests.{not-true, not-false}
 use mathlib.Core.Path.{sym, ap, ◌∙◌}
 use Prim.Native.Nat.{ℕ, ◌-◌}
 use mathlib.Core.List.{List}
@@ -23,7 +24,7 @@ seat-seat-requires c = (c.requires.1, (undamaged c.args.store.now c.requires.0).
 pub returns-then-not-seat : goal.returns-then-not-seat
 unfolding out
 returns-then-not-seat c =
-    let free = seat_free c.args.store.now c.args.j c.requires.0 c.requires.1 c.seat-seat.result c.seat-seat.ensures c.if-not-seat.true in
+    let free = seat_free c.args.store.now c.args.j c.requires.0 c.requires.1 c.seat-seat.result c.seat-seat.ensures (not-true _ c.if-not-seat.true) in
     ap (out c.args.store.now c.args.j) (sym free)
 
 pub drop_held-requires : goal.drop_held-requires
@@ -32,6 +33,6 @@ drop_held-requires c = (c.requires.1, (undamaged c.args.store.now c.requires.0).
 pub returns : goal.returns
 unfolding out
 returns c =
-    let used = seat_used c.args.store.now c.args.j c.requires.0 c.requires.1 c.seat-seat.result c.seat-seat.ensures c.if-not-seat.false in
+    let used = seat_used c.args.store.now c.args.j c.requires.0 c.requires.1 c.seat-seat.result c.seat-seat.ensures (not-false _ c.if-not-seat.false) in
     ap (λ (u : List ℕ). (Done, u)) (c.drop_held.ensures ∙ set_held c.args.store.now c.args.j none (λ i. (c.slice_known-1.given i).fits) c.requires.0 c.requires.1)
     ∙ ap (out c.args.store.now c.args.j) (sym used)

@@ -1,4 +1,5 @@
 -- `leave_wall` withdraws a wall only from a slot that is used. Assumes nothing.
+use borrow.Author.Tests.{not-true, not-false}
 use mathlib.Core.Path.{◌≡◌, sym, ap, ◌∙◌}
 use mathlib.Core.List.{List}
 use mathlib.Core.Option.{Option, none}
@@ -21,7 +22,7 @@ out c o =
     told a.store.now (from_used o (λ (w : Wall). change_wall a.k none (book_of a.store.now)))
 
 wall-slot-requires : tie.Need-wall_slot-wall_slot-requires
-wall-slot-requires c κs = let start = c.before.before in (start.requires.2, (undamaged start.args.store.now start.requires.1).0)
+wall-slot-requires c κs = let start = c.before in (start.requires.2, (undamaged start.args.store.now start.requires.1).0)
 
 same_length : tie.Need-shape_of-store-then-not-wall_slot
 same_length c = search rules
@@ -29,8 +30,8 @@ same_length c = search rules
 returns : tie.Need-returns-then-not-wall_slot
 returns c =
     let t = c.before.before in
-    let start = t.before.before.before in
-    ap (out start) (sym (wall_slot_free start.args.store.now start.args.k start.requires.1 start.requires.2 t.wall_slot-wall_slot.result t.wall_slot-wall_slot.ensures c.if-not-wall_slot.true))
+    let start = t.before.before in
+    ap (out start) (sym (wall_slot_free start.args.store.now start.args.k start.requires.1 start.requires.2 t.wall_slot-wall_slot.result t.wall_slot-wall_slot.ensures (not-true _ c.if-not-wall_slot.true)))
 
 change-wall-requires : tie.Need-change_wall-requires
 change-wall-requires c κs =
@@ -45,7 +46,7 @@ returns-2 c =
     let p = c.before.before in
     let t = p.before.before.before.before in
     let start = t.before.before.before in
-    let used = wall_slot_used start.args.store.now start.args.k start.requires.1 start.requires.2 t.wall_slot-wall_slot.result t.wall_slot-wall_slot.ensures p.if-not-wall_slot.false in
+    let used = wall_slot_used start.args.store.now start.args.k start.requires.1 start.requires.2 t.wall_slot-wall_slot.result t.wall_slot-wall_slot.ensures (not-false _ p.if-not-wall_slot.false) in
     p.change_wall.ensures ∙ ap (out start) (sym used)
 
 pub leave_wall_spec : {M : Type 1} → statement M

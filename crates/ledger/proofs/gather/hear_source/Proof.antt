@@ -64,10 +64,10 @@ offered c q e =
     ap offer_by (sym e ∙ c.pair.ensures) ∙ ap (offer_of (pair_of (walls_of start.args.walls.now)) start.args.r) (sym used)
 
 returns-2 : tie.Need-returns-in-Heard
-returns-2 c = offered c.before.before.before _ c.shares-1.given.1
+returns-2 c = offered c.before _ c.in-Heard.is
 
 returns-3 : tie.Need-returns-in-Barred
-returns-3 c = offered c.before.before.before _ c.bar-1.given.1
+returns-3 c = offered c.before _ c.in-Barred.is
 
 pub hear_source_spec : {M : Type 1} → statement M
 hear_source_spec =

@@ -32,10 +32,10 @@ minus-requires c κs = sym c.covers.ensures ∙ c.if-not-covers.false
 -- the account, what goes, what comes, and that the pair is heard
 module _ (v : tie.After-covers) where
   abbrev args : tie.Start
-  args = v.before.before.before.before
+  args = v.before.before
 
   abbrev less : Shares
-  less = v.goes-1.given.0.0
+  less = v.in-Heard.less
 
   abbrev rest : Account
   rest = minus_of args.args.sums less
@@ -43,7 +43,7 @@ module _ (v : tie.After-covers) where
   by_tests : (fits : Bool) → covers args.args.sums less && room rest args.args.more ≡ fits → told rest args.args.more fits ≡ exchanged_by args.args.goes args.args.more args.args.sums
   by_tests fits e =
       ap (told rest args.args.more) (sym e)
-      ∙ sym (ap (λ (q : Pair). exchanged_by q args.args.more args.args.sums) v.goes-1.given.1)
+      ∙ sym (ap (λ (q : Pair). exchanged_by q args.args.more args.args.sums) v.in-Heard.is)
 
   short : v.covers.result ≡ false → covers args.args.sums less && room rest args.args.more ≡ false
   short f = ap (λ (b : Bool). b && room rest args.args.more) (sym v.covers.ensures ∙ f)
