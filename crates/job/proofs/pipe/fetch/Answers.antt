@@ -20,6 +20,6 @@ pub returns : goal.returns
 returns c =
     fetched c.args.input.now c.read-got.new.buf c.args.held c.unwrap_or-more.result _ (omega (arith, c.requires)) c.read-got.auto.buf
     (let w = within c.read-got.result c.unwrap_or-more.result c.read-got.new.buf c.read-got.ensures.bound c.unwrap_or-more.ensures in
-     let n = length-take-le (length c.args.input.now - c.args.held) (drop c.args.held c.args.input.now) (omega (arith, length-drop c.args.held c.args.input.now)) in
-     omega (arith, w, n, c.read-got.auto.buf, c.requires))
+    let n = length-take-le (length c.args.input.now - c.args.held) (drop c.args.held c.args.input.now) (omega (arith, length-drop c.args.held c.args.input.now)) in
+    omega (arith, w, n, c.read-got.auto.buf, c.requires))
     (λ i. (c.type_inv.input i).fits)

@@ -26,16 +26,15 @@ returns-then-s-2 c =
     finished _ _ _ c.loop-turns.store c.loop-turns.input c.loop-turns.output c.loop-turns.s c.loop-turns.turns c.finish-last.result _ c.loop-turns.invariant c.if-s-2.true c.finish-last.ensures
 
 pub turn-s-requires : goal.turn-s-requires
-turn-s-requires c =
-    (
-      c.requires.0,
-      c.loop-turns.invariant.sound,
-      c.loop-turns.invariant.ordered,
-      c.loop-turns.invariant.within,
-      omega (arith, c.loop-turns.invariant.same_input, c.requires.2),
-      omega (arith, c.loop-turns.invariant.same_input, c.requires.3),
-      omega (arith, c.loop-turns.invariant.few),
-    )
+turn-s-requires c = (
+  c.requires.0,
+  c.loop-turns.invariant.sound,
+  c.loop-turns.invariant.ordered,
+  c.loop-turns.invariant.within,
+  omega (arith, c.loop-turns.invariant.same_input, c.requires.2),
+  omega (arith, c.loop-turns.invariant.same_input, c.requires.3),
+  omega (arith, c.loop-turns.invariant.few),
+)
 
 pub overflow_sub-turns : goal.overflow_sub-turns
 overflow_sub-turns c = c.loop-turns-test.true
