@@ -17,11 +17,9 @@ home_allowed : receiver_verdict home ≡ Allowed
 unfolding receiver_verdict
 home_allowed = refl
 
-
 no_walls : Laid []
 unfolding Laid walls_of walls_in
 no_walls = tt
-
 
 none_are : walls_of [] ≡ []
 unfolding walls_of walls_in
