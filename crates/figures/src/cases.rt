@@ -81,7 +81,7 @@ fn between(x: u32, south: u32, north: u32) -> Source {
 }
 
 // Squared distance, distance, and what distance and ground take off. H is 450, twice the mean height of the ray.
-fn way(steps: &[u32; 1000], names: &[u8], x: u32)
+fn way(rt: &HostRuntime, steps: &[u32; 1000], names: &[u8], x: u32)
     requires { (steps.now ≡ table) × (100000 ≤ x) × (x ≤ 110000) }
 {
     let r = point();
@@ -94,10 +94,10 @@ fn way(steps: &[u32; 1000], names: &[u8], x: u32)
         up: way.down,
         down: other,
     };
-    print::number(names, 0, q);
-    print::number(names, 1, far);
-    print::level(names, 2, distance);
-    print::number(names, 3, ground as u64);
+    print::number(rt, names, 0, q);
+    print::number(rt, names, 1, far);
+    print::level(rt, names, 2, distance);
+    print::number(rt, names, 3, ground as u64);
 }
 
 // The refusal of a pair that is barred, with the slot 0.
@@ -137,97 +137,101 @@ fn meet(steps: &[u32; 1000], s: Source) -> Outcome
 }
 
 // What speed gives, for the road's two speeds.
-fn speed(steps: &[u32; 1000], names: &[u8])
+fn speed(rt: &HostRuntime, steps: &[u32; 1000], names: &[u8])
     requires { steps.now ≡ table }
 {
     let s = street(102500, 1000);
     match judge::judge_source(steps, s) {
-        Verdict::Refused(why) => print::refusal(names, 0, why),
+        Verdict::Refused(why) => print::refusal(rt, names, 0, why),
         Verdict::Allowed => {
             let pace = emission::pace_of(steps, s);
-            print::level(names, 0, emission::speed(steps, pace, 0));
-            print::level(names, 1, emission::speed(steps, pace, 200));
+            print::level(rt, names, 0, emission::speed(steps, pace, 0));
+            print::level(rt, names, 1, emission::speed(steps, pace, 200));
         }
     }
 }
 
 // The shares of the road, as energies and as levels.
-fn shares(steps: &[u32; 1000], names: &[u8], s: Source)
+fn shares(rt: &HostRuntime, steps: &[u32; 1000], names: &[u8], s: Source)
     requires { steps.now ≡ table }
 {
     match meet(steps, s) {
-        Outcome::Refused(why) => print::refusal(names, 0, why),
+        Outcome::Refused(why) => print::refusal(rt, names, 0, why),
         Outcome::Told(h) => {
-            print::number(names, 0, h.day);
-            print::number(names, 1, h.evening);
-            print::number(names, 2, h.night);
-            print::heard(names, 3, level::level(steps, h.day));
-            print::heard(names, 4, level::level(steps, h.evening));
-            print::heard(names, 5, level::level(steps, h.night));
+            print::number(rt, names, 0, h.day);
+            print::number(rt, names, 1, h.evening);
+            print::number(rt, names, 2, h.night);
+            print::heard(rt, names, 3, level::level(steps, h.day));
+            print::heard(rt, names, 4, level::level(steps, h.evening));
+            print::heard(rt, names, 5, level::level(steps, h.night));
         }
     }
 }
 
 // The road twice, at night.
-fn twice(steps: &[u32; 1000], names: &[u8])
+fn twice(rt: &HostRuntime, steps: &[u32; 1000], names: &[u8])
     requires { steps.now ≡ table }
 {
     match meet(steps, street(102500, 1000)) {
-        Outcome::Refused(why) => print::refusal(names, 0, why),
+        Outcome::Refused(why) => print::refusal(rt, names, 0, why),
         Outcome::Told(h) => {
             let both = h.night + h.night;
-            print::heard(names, 0, level::level(steps, both));
+            print::heard(rt, names, 0, level::level(steps, both));
         }
     }
 }
 
 // Whether the road is heard at the point.
-fn limit(steps: &[u32; 1000], names: &[u8], k: usize, x: u32, length: u32)
+fn limit(rt: &HostRuntime, steps: &[u32; 1000], names: &[u8], k: usize, x: u32, length: u32)
     requires { steps.now ≡ table }
 {
     match meet(steps, street(x, length)) {
-        Outcome::Refused(why) => print::refusal(names, k, why),
-        Outcome::Told(_) => print::word(names, k, b"heard\n"),
+        Outcome::Refused(why) => print::refusal(rt, names, k, why),
+        Outcome::Told(_) => print::word(rt, names, k, b"heard\n"),
     }
 }
 
 // The longest piece at 25 m, and the nearest road.
-fn limits(steps: &[u32; 1000], names: &[u8])
+fn limits(rt: &HostRuntime, steps: &[u32; 1000], names: &[u8])
     requires { steps.now ≡ table }
 {
-    limit(steps, names, 0, 102500, 1262);
-    limit(steps, names, 1, 102500, 1263);
-    limit(steps, names, 2, 100357, 1000);
-    limit(steps, names, 3, 100358, 100);
+    limit(rt, steps, names, 0, 102500, 1262);
+    limit(rt, steps, names, 1, 102500, 1263);
+    limit(rt, steps, names, 2, 100357, 1000);
+    limit(rt, steps, names, 3, 100358, 100);
 }
 
 // The road at 25 m, once and twice.
-fn at_25(steps: &[u32; 1000])
+fn at_25(rt: &HostRuntime, steps: &[u32; 1000])
     requires { steps.now ≡ table }
 {
     way(
+        rt,
         steps,
         b"25 m: Q \n25 m: r \n25 m: Ds \n25 m: ground \n",
         102500,
     );
     shares(
+        rt,
         steps,
         b"25 m: energy by day \n25 m: energy in the evening \n25 m: energy at night \n25 m: share by day \n25 m: share in the evening \n25 m: share at night \n",
         street(102500, 1000),
     );
-    twice(steps, b"25 m, twice: night level \n");
+    twice(rt, steps, b"25 m, twice: night level \n");
 }
 
 // The road at 100 m.
-fn at_100(steps: &[u32; 1000])
+fn at_100(rt: &HostRuntime, steps: &[u32; 1000])
     requires { steps.now ≡ table }
 {
     way(
+        rt,
         steps,
         b"x 110000: Q \nx 110000: r \nx 110000: Ds \nx 110000: ground \n",
         110000,
     );
     shares(
+        rt,
         steps,
         b"x 110000: energy by day \nx 110000: energy in the evening \nx 110000: energy at night \nx 110000: share by day \nx 110000: share in the evening \nx 110000: share at night \n",
         street(110000, 1000),
@@ -235,10 +239,11 @@ fn at_100(steps: &[u32; 1000])
 }
 
 // The road at 25 m between two ends 12.63 m apart: it is cut into two pieces, and their energies add up.
-fn cut(steps: &[u32; 1000])
+fn cut(rt: &HostRuntime, steps: &[u32; 1000])
     requires { steps.now ≡ table }
 {
     shares(
+        rt,
         steps,
         b"25 m, cut: energy by day \n25 m, cut: energy in the evening \n25 m, cut: energy at night \n25 m, cut: share by day \n25 m, cut: share in the evening \n25 m, cut: share at night \n",
         between(102500, 99369, 100632),
@@ -246,13 +251,18 @@ fn cut(steps: &[u32; 1000])
 }
 
 // All of them.
-pub fn all() {
+pub fn all(rt: &HostRuntime) {
     let steps = level::table::steps();
-    speed(&steps, b"v 100, u 80, p 0: Dv \nv 100, u 80, p 200: Dv \n");
-    at_25(&steps);
-    at_100(&steps);
-    cut(&steps);
+    speed(
+        rt,
+        &steps,
+        b"v 100, u 80, p 0: Dv \nv 100, u 80, p 200: Dv \n",
+    );
+    at_25(rt, &steps);
+    at_100(rt, &steps);
+    cut(rt, &steps);
     limits(
+        rt,
         &steps,
         b"25 m, l 1262: \n25 m, l 1263: \ndx 357: \ndx 358, l 100: \n",
     );

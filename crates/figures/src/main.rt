@@ -7,8 +7,8 @@ mod print;
 mod terms;
 mod through_book;
 
-fn main() {
-    terms::all();
-    cases::all();
-    through_book::all();
+fn main(rt: HostRuntime) {
+    terms::all(&rt);
+    cases::all(&rt);
+    through_book::all(&rt);
 }

@@ -18,18 +18,16 @@ use Rattle.store.proofs.Laws.{cleared}
 use Rattle.calls.specs.declared.Answer.{Answer}
 use Rattle.calls.specs.declared.Answer.TheVariants.{Done, Refused}
 use Rattle.calls.specs.Calls.{clear_store}
-use Rattle.listing.specs.Listing.{line_room, end_line}
 use Rattle.machine.specs.declared.State.{State}
 use Rattle.machine.specs.declared.Progress.{Progress}
 use Rattle.machine.specs.Job.{before, ended, list_from}
-use Rattle.machine.specs.Feed.{left, Fed, Feeds}
+use Rattle.machine.specs.Feed.{left, Feeds}
 use Rattle.machine.specs.Inner.{part}
 use Rattle.machine.proofs.Rule.{true_false, before_before, left_on, left_stopped, left_none}
 use Rattle.machine.proofs.Lines.{part_length}
 use Rattle.job.specs.declared.pipe.Hand.{Hand}
 use Rattle.job.specs.declared.pipe.Stand.{Stand}
 use Rattle.job.specs.declared.pipe.Last.{Last}
-use Rattle.job.specs.declared.pipe.End.{End}
 use Rattle.job.specs.Job.{Follows, state_in, at_hand, Advanced, Turned, Ended, Ran}
 
 -- ---- bytes at hand

@@ -14,10 +14,10 @@ fn room() -> [u8; store::LENGTH]
     [0; store::LENGTH]
 }
 
-fn main() {
+fn main(rt: HostRuntime) {
     let steps = level::table::steps();
     let mut store = room();
-    let mut input = io::large_buffer();
-    let mut output = io::large_buffer();
-    pipe::run(&steps, &mut store, &mut input, &mut output);
+    let mut input = [0u8; 65536];
+    let mut output = [0u8; 65536];
+    pipe::run(&rt, &steps, &mut store, &mut input, &mut output);
 }

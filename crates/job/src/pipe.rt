@@ -8,8 +8,8 @@ ghost use Rattle.listing.specs.Listing.{line_room};
 ghost use Rattle.machine.specs.Inner.{part};
 ghost use Rattle.job.specs.Job.{Follows, Advanced, Turned, Ended, Ran};
 
-use libc::{STDERR_FILENO, STDIN_FILENO, STDOUT_FILENO};
 use machine::{LONGEST_RECORD, State};
+use std::io::Read;
 
 // How many turns a job may have: a number that none reaches, and that keeps the count of records below 2^63.
 const TURNS: u64 = 140737488355328;
@@ -55,22 +55,23 @@ pub struct End {
 }
 
 // Reads behind the first `held` bytes of the input, where there is room for a byte at least: so a read of nothing is the end.
-fn fetch(input: &mut [u8], held: usize) -> Hand
+fn fetch(rt: &HostRuntime, input: &mut [u8], held: usize) -> Hand
     requires { held < length input.old }
     ensures { Follows false (take held input.old) input.new result }
 {
-    let got = libc::read(STDIN_FILENO, &mut input[held..]);
-    let more = io::count(got, &input[held..]);
+    let got = rt.stdin().read(&mut input[held..]);
+    let failed = got.is_err();
+    let more = got.unwrap_or(0);
     Hand {
         from: 0,
         to: held + more,
         over: more == 0,
-        failed: got < 0,
+        failed,
     }
 }
 
 // Makes sure that a whole record is at hand, or that the input is over.
-fn refill(input: &mut [u8], from: usize, to: usize, over: bool) -> Hand
+fn refill(rt: &HostRuntime, input: &mut [u8], from: usize, to: usize, over: bool) -> Hand
     requires { (from ≤ to) × (to ≤ length input.old) × (longest_record ≤ length input.old) }
     ensures { Follows over (part from to input.old) input.new result }
 {
@@ -83,11 +84,12 @@ fn refill(input: &mut [u8], from: usize, to: usize, over: bool) -> Hand
         };
     }
     machine::hold(input, from, to);
-    fetch(input, to - from)
+    fetch(rt, input, to - from)
 }
 
 // The records at hand are done, and their lines go out.
 fn advance(
+    rt: &HostRuntime,
     steps: &[u32; 1000],
     store: &mut [u8],
     input: &[u8],
@@ -102,7 +104,7 @@ fn advance(
     let to = hand.to;
     let p = machine::feed(steps, x, store, &input[from..to], hand.over, output);
     let wrote = p.wrote;
-    let told = io::write_all(STDOUT_FILENO, &output[..wrote]);
+    let told = rt.write_all(&output[..wrote]).is_ok();
     let next = from + p.used;
     Stand {
         start: from,
@@ -119,6 +121,7 @@ fn advance(
 
 // One turn: bytes are fetched where they are wanted, and the records at hand are done. Where no byte can be read, none is.
 fn turn(
+    rt: &HostRuntime,
     steps: &[u32; 1000],
     store: &mut [u8],
     input: &mut [u8],
@@ -128,7 +131,7 @@ fn turn(
     requires { (steps.now ≡ table) × (damaged store.old ≡ false) × (s.from ≤ s.to) × (s.to ≤ length input.old) × (longest_record ≤ length input.old) × (length input.old ≤ 65536) × (s.count + 65536 < 18446744073709551616) }
     ensures { Turned s input.old store.old result input.new store.new output.new }
 {
-    let hand = refill(input, s.from, s.to, s.over);
+    let hand = refill(rt, input, s.from, s.to, s.over);
     if hand.failed {
         return Stand {
             start: hand.from,
@@ -146,37 +149,43 @@ fn turn(
         count: s.count,
         stopped: s.stopped,
     };
-    advance(steps, store, input, output, hand, x)
+    advance(rt, steps, store, input, output, hand, x)
 }
 
 // Says on standard error what went wrong.
-fn complain(unread: bool, unwritten: bool) {
+fn complain(rt: &HostRuntime, unread: bool, unwritten: bool) {
     if unread {
-        io::write_all(STDERR_FILENO, b"job: standard input cannot be read\n");
+        let _ = rt.eprintln("job: standard input cannot be read");
     }
     if unwritten {
-        io::write_all(STDERR_FILENO, b"job: standard output cannot be written\n");
+        let _ = rt.eprintln("job: standard output cannot be written");
     }
     if !unread & !unwritten {
-        io::write_all(STDERR_FILENO, b"job: the job is too long\n");
+        let _ = rt.eprintln("job: the job is too long");
     }
 }
 
 // The last line.
-fn finish(output: &mut [u8], count: u64) -> Last
+fn finish(rt: &HostRuntime, output: &mut [u8], count: u64) -> Last
     requires { line_room ≤ length output.old }
     ensures { Ended count result output.new }
 {
     let wrote = listing::end_line(count, output);
-    let told = io::write_all(STDOUT_FILENO, &output[..wrote]);
+    let told = rt.write_all(&output[..wrote]).is_ok();
     if !told {
-        complain(false, true);
+        complain(rt, false, true);
     }
     Last { wrote, told }
 }
 
 // Runs a job, from a cleared store to the last line.
-pub fn run(steps: &[u32; 1000], store: &mut [u8], input: &mut [u8], output: &mut [u8]) -> End
+pub fn run(
+    rt: &HostRuntime,
+    steps: &[u32; 1000],
+    store: &mut [u8],
+    input: &mut [u8],
+    output: &mut [u8],
+) -> End
     requires { (steps.now ≡ table) × (length store.old ≡ store_length) × (longest_record ≤ length input.old) × (length input.old ≤ 65536) × (line_room ≤ length output.old) }
     ensures { Ran result store.new output.new }
 {
@@ -198,7 +207,7 @@ pub fn run(steps: &[u32; 1000], store: &mut [u8], input: &mut [u8], output: &mut
             break;
         }
         if s.stopped | (s.over & (s.from == s.to)) {
-            let last = finish(output, s.count);
+            let last = finish(rt, output, s.count);
             return End {
                 whole: last.told,
                 over: s.over,
@@ -206,10 +215,10 @@ pub fn run(steps: &[u32; 1000], store: &mut [u8], input: &mut [u8], output: &mut
                 wrote: last.wrote,
             };
         }
-        s = turn(steps, store, input, output, s);
+        s = turn(rt, steps, store, input, output, s);
         turns -= 1;
     }
-    complain(s.unread, s.unwritten);
+    complain(rt, s.unread, s.unwritten);
     End {
         whole: false,
         over: s.over,

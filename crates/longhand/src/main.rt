@@ -7,8 +7,8 @@ mod sheet;
 
 ghost use Rattle.std.specs.Prelude.{◌≤◌, length};
 
-use libc::{STDERR_FILENO, STDIN_FILENO, STDOUT_FILENO};
 use reading::Reading;
+use std::io::Read;
 
 // What is read of the line so far, whether all sheets before it could be written, and whether the input is over.
 #[derive(Clone, Copy)]
@@ -19,25 +19,25 @@ struct Stand {
 }
 
 // Writes the first n bytes.
-fn send(bytes: &[u8], n: usize) -> bool
+fn send(rt: &HostRuntime, bytes: &[u8], n: usize) -> bool
     requires { n ≤ length bytes.now }
 {
-    io::write_all(STDOUT_FILENO, &bytes[..n])
+    rt.write_all(&bytes[..n]).is_ok()
 }
 
 // Writes the sheet of the number that was read, if one was.
-fn tell(out: &mut [u8; 4096], reading: Reading) -> bool {
+fn tell(rt: &HostRuntime, out: &mut [u8; 4096], reading: Reading) -> bool {
     let Reading::Number(q) = reading else {
         return true;
     };
     let n = sheet::write(q, out);
-    send(out, n)
+    send(rt, out, n)
 }
 
 // Takes one byte: a line feed ends the number, any other byte goes on with it.
-fn take(out: &mut [u8; 4096], reading: Reading, byte: u8) -> Stand {
+fn take(rt: &HostRuntime, out: &mut [u8; 4096], reading: Reading, byte: u8) -> Stand {
     if byte == 10 {
-        let told = tell(out, reading);
+        let told = tell(rt, out, reading);
         return Stand {
             reading: Reading::Nothing,
             told,
@@ -61,7 +61,7 @@ fn good(stand: Stand) -> bool {
 }
 
 // Takes all bytes that were read, up to the first that is wrong.
-fn take_all(input: &[u8], out: &mut [u8; 4096], reading: Reading) -> Stand {
+fn take_all(rt: &HostRuntime, input: &[u8], out: &mut [u8; 4096], reading: Reading) -> Stand {
     let mut stand = Stand {
         reading,
         told: true,
@@ -70,7 +70,7 @@ fn take_all(input: &[u8], out: &mut [u8; 4096], reading: Reading) -> Stand {
     let mut i = 0;
     while i < input.len() {
         let so_far = stand.reading;
-        stand = take(out, so_far, input[i]);
+        stand = take(rt, out, so_far, input[i]);
         if !good(stand) {
             return stand;
         }
@@ -80,40 +80,36 @@ fn take_all(input: &[u8], out: &mut [u8; 4096], reading: Reading) -> Stand {
 }
 
 // Says on standard error why it does not go on.
-fn complain(told: bool) {
+fn complain(rt: &HostRuntime, told: bool) {
     if told {
-        io::write_all(STDERR_FILENO, b"longhand: not a whole number below 2^64\n");
+        let _ = rt.eprintln("longhand: not a whole number below 2^64");
     } else {
-        io::write_all(
-            STDERR_FILENO,
-            b"longhand: standard output cannot be written\n",
-        );
+        let _ = rt.eprintln("longhand: standard output cannot be written");
     }
 }
 
 // Reads as much as there is room for, and takes it. The last line may lack its line feed.
-fn read_on(input: &mut [u8], out: &mut [u8; 4096], reading: Reading) -> Stand {
-    let got = libc::read(STDIN_FILENO, input);
-    let n = io::count(got, input);
+fn read_on(rt: &HostRuntime, input: &mut [u8], out: &mut [u8; 4096], reading: Reading) -> Stand {
+    let n = rt.stdin().read(input).unwrap_or(0);
     if n == 0 {
-        let told = tell(out, reading);
+        let told = tell(rt, out, reading);
         return Stand {
             reading: Reading::Nothing,
             told,
             over: true,
         };
     }
-    take_all(&input[..n], out, reading)
+    take_all(rt, &input[..n], out, reading)
 }
 
 // A proved loop has to end, and nothing says that the input does: the loop counts down from a number that no run uses up.
-fn run(input: &mut [u8], out: &mut [u8; 4096]) {
+fn run(rt: &HostRuntime, input: &mut [u8], out: &mut [u8; 4096]) {
     let mut reading = Reading::Nothing;
     let mut turns = u64::MAX;
     while 0 < turns {
-        let stand = read_on(input, out, reading);
+        let stand = read_on(rt, input, out, reading);
         if !good(stand) {
-            complain(stand.told);
+            complain(rt, stand.told);
             return;
         }
         if stand.over {
@@ -124,8 +120,8 @@ fn run(input: &mut [u8], out: &mut [u8; 4096]) {
     }
 }
 
-fn main() {
-    let mut input = io::large_buffer();
-    let mut out = io::buffer();
-    run(&mut input, &mut out);
+fn main(rt: HostRuntime) {
+    let mut input = [0u8; 65536];
+    let mut out = [0u8; 4096];
+    run(&rt, &mut input, &mut out);
 }

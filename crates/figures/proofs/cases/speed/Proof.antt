@@ -13,33 +13,33 @@ use borrow.Author.Rules.{rules}
 use Rattle.figures.proofs.cases.speed.Statement.{statement}
 use Rattle.figures.proofs.cases.speed.Tie as tie
 
-street-requires : tie.Need-street-requires
+street-requires : tie.Need-street-s-requires
 street-requires c κs = search rules
 
-judge-source-requires : tie.Need-judge-source-requires
+judge-source-requires : tie.Need-judge_source-requires
 judge-source-requires c κs = search rules
 
-enum-known-why : tie.Need-enum-known-why
+enum-known-why : tie.Need-enum_known-why
 enum-known-why c = search rules
 
 refusal-requires : tie.Need-refusal-requires
 refusal-requires c κs = search rules
 
-enum_told : tie.Need-enum-told
+enum_told : tie.Need-enum_told-1
 enum_told c = search rules
 
-pace-of-requires : tie.Need-pace-of-requires
-pace-of-requires c κs = (c.before.before.before.before.before.requires, sym c.before.before.judge-source.ensures ∙ c.enum_told.given.1)
+pace-of-requires : tie.Need-pace_of-pace-requires
+pace-of-requires c κs = (c.requires, sym c.judge_source.ensures ∙ c.in-Allowed.is)
 
 -- the pace is small, for every p
 small : (s : Source) (p : Pace) → p ≡ pace_of s → Paced p
 small s p e = rw e (paced s)
 
-ready : (c : tie.After-pace-of) (p : ℕ) → p ≤ all_trucks
-    → (c.before.before.before.before.before.before.args.steps.now ≡ table) × (c.pace-of.result.car ≤ 20000) × (c.pace-of.result.gain < 1000000000) × (p ≤ all_trucks)
+ready : (c : tie.After-pace_of-pace) (p : ℕ) → p ≤ all_trucks
+    → (c.args.steps.now ≡ table) × (c.pace_of-pace.result.car ≤ 20000) × (c.pace_of-pace.result.gain < 1000000000) × (p ≤ all_trucks)
 ready c p h =
-    let k = small c.before.before.before.before.street.result c.pace-of.result c.pace-of.ensures in
-    (c.before.before.before.before.before.before.requires, k.car, k.gain, h)
+    let k = small c.street-s.result c.pace_of-pace.result c.pace_of-pace.ensures in
+    (c.requires, k.car, k.gain, h)
 
 speed-requires : tie.Need-speed-requires
 speed-requires c κs = ready c 0 (omega arith)
@@ -47,31 +47,19 @@ speed-requires c κs = ready c 0 (omega arith)
 level-requires : tie.Need-level-requires
 level-requires c κs = search rules
 
-speed-requires-2 : tie.Need-speed-requires-2
+speed-requires-2 : tie.Need-speed-requires-in-Allowed
 speed-requires-2 c κs = ready c.before.before 200 (omega arith)
 
-level-requires-2 : tie.Need-level-requires-2
+level-requires-2 : tie.Need-level-requires-in-Allowed
 level-requires-2 c κs = search rules
 
-returns : tie.Need-returns
+returns : tie.Need-returns-in-Refused
 returns c = search rules
 
-returns-2 : tie.Need-returns-2
+returns-2 : tie.Need-returns-in-Allowed
 returns-2 c = search rules
 
 pub speed_spec : {M : Type 1} → statement M
 speed_spec =
     tie.close
-    (tie.spec
-    street-requires
-    judge-source-requires
-    enum-known-why
-    refusal-requires
-    enum_told
-    pace-of-requires
-    speed-requires
-    level-requires
-    speed-requires-2
-    level-requires-2
-    returns
-    returns-2)
+    (tie.spec street-requires judge-source-requires enum-known-why refusal-requires enum_told pace-of-requires speed-requires level-requires speed-requires-2 level-requires-2 returns returns-2)

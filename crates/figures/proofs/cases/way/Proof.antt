@@ -1,7 +1,7 @@
 -- `way` works with a road that is up to 100 m from the point: what it asks is in range.
 -- Assumes nothing.
 use mathlib.Core.Path.{◌≡◌, ap}
-use Prim.Native.Nat.{ℕ, ◌+◌, ◌-◌, ◌*◌, ◌≤◌}
+use Prim.Native.Nat.{ℕ, ◌-◌, ◌≤◌}
 use native.Mathlib.Omega.{arith}
 use Rattle.course.specs.declared.Piece.{Piece}
 use Rattle.course.specs.Course.{apart, square}
@@ -14,7 +14,7 @@ use borrow.Author.Rules.{rules}
 use Rattle.figures.proofs.cases.way.Statement.{statement}
 use Rattle.figures.proofs.cases.way.Tie as tie
 
-point-requires : tie.Need-point-requires
+point-requires : tie.Need-point-r-requires
 point-requires c κs = search rules
 
 piece-requires : tie.Need-piece-requires
@@ -23,7 +23,7 @@ piece-requires c κs = search rules
 plan-requires : tie.Need-plan-requires
 plan-requires c κs =
     let s = c.piece.ensures in
-    let r = c.before.point.ensures in
+    let r = c.point-r.ensures in
     let start = c.before.before.before in
     (omega (arith, s.0, start.requires.2), omega (arith, s.1), omega (arith, ap (λ (p : Receiver). p.x) r), omega (arith, ap (λ (p : Receiver). p.y) r))
 
@@ -35,13 +35,13 @@ near s r a b =
 
 passing : (c : tie.After-plan) → c.plan.result ≤ 100000000
 passing c =
-    let s = c.before.piece.ensures in
-    let r = c.before.before.point.ensures in
-    let p = c.before.before.before.before.requires in
+    let s = c.piece.ensures in
+    let r = c.point-r.ensures in
+    let p = c.requires in
     omega (
       arith,
       c.plan.ensures,
-      near c.before.piece.result c.before.before.point.result
+      near c.piece.result c.point-r.result
           (omega (arith, s.0, p.1, p.2, ap (λ (p : Receiver). p.x) r))
           (omega (arith, s.1, ap (λ (p : Receiver). p.y) r)),
     )
@@ -50,36 +50,36 @@ record Spaced (q : ℕ) : Type 0 where
   some : 1 ≤ q
   most : q ≤ farthest
 
-spaced : (c : tie.After-space) → Spaced c.space.result
+spaced : (c : tie.After-space-q) → Spaced c.space-q.result
 spaced c =
-    let rise : square (c.before.before.before.point.result.height - 50) ≡ 122500 = ap (λ (p : Receiver). square (p.height - 50)) c.before.before.before.point.ensures in
-    record { some = omega (arith, c.space.ensures); most = omega (arith, c.space.ensures, passing c.before) }
+    let rise : square (c.point-r.result.height - 50) ≡ 122500 = ap (λ (p : Receiver). square (p.height - 50)) c.point-r.ensures in
+    record { some = omega (arith, c.space-q.ensures); most = omega (arith, c.space-q.ensures, passing c.before) }
 
-far : (c : tie.After-root) → Reached c.root.result
-far c = reached c.before.space.result _ (spaced c.before).some (spaced c.before).most c.root.ensures
+far : (c : tie.After-root-far) → Reached c.root-far.result
+far c = reached c.space-q.result _ (spaced c.before).some (spaced c.before).most c.root-far.ensures
 
-space-requires : tie.Need-space-requires
+space-requires : tie.Need-space-q-requires
 space-requires c κs =
-    let e = ap (λ (p : Receiver). p.height) c.before.before.point.ensures in
+    let e = ap (λ (p : Receiver). p.height) c.point-r.ensures in
     (omega (arith, passing c), omega (arith, e), omega (arith, e))
 
-root-requires : tie.Need-root-requires
+root-requires : tie.Need-root-far-requires
 root-requires c κs = search rules
 
-ground-requires : tie.Need-ground-requires
+ground-requires : tie.Need-ground-ground-requires
 ground-requires c κs = (omega arith, (far c).some, (far c).most)
 
-way-requires : tie.Need-way-requires
+way-requires : tie.Need-way-way-requires
 way-requires c κs =
     let q = c.before.before in
     let r = far c.before in
-    (q.before.before.before.before.before.requires.0, (spaced q).some, (spaced q).most, omega arith, r.some, r.most, omega arith)
+    (q.requires.0, (spaced q).some, (spaced q).most, omega arith, r.some, r.most, omega arith)
 
-add-other : tie.Need-overflow-add-other
+add-other : tie.Need-overflow_add-other
 unfolding distance_term obstacle_term
 add-other c =
-    let r = c.before.before.before.root.result in
-    omega (arith, ap (λ (t : Term). t.up) c.before.way.ensures, c.before.before.ground.ensures, ground_most 450 r)
+    let r = c.root-far.result in
+    omega (arith, ap (λ (t : Term). t.up) c.way-way.ensures, c.ground-ground.ensures, ground_most 450 r)
 
 number-requires : tie.Need-number-requires
 number-requires c κs = search rules
@@ -90,7 +90,7 @@ number-requires-2 c κs = search rules
 level-requires : tie.Need-level-requires
 level-requires c κs = search rules
 
-cast-number : tie.Need-overflow-cast-number
+cast-number : tie.Need-overflow_cast-ground
 cast-number c = search rules
 
 number-requires-3 : tie.Need-number-requires-3
@@ -102,18 +102,4 @@ returns c = search rules
 pub way_spec : {M : Type 1} → statement M
 way_spec =
     tie.close
-    (tie.spec
-    point-requires
-    piece-requires
-    plan-requires
-    space-requires
-    root-requires
-    ground-requires
-    way-requires
-    add-other
-    number-requires
-    number-requires-2
-    level-requires
-    cast-number
-    number-requires-3
-    returns)
+    (tie.spec point-requires piece-requires plan-requires space-requires root-requires ground-requires way-requires add-other number-requires number-requires-2 level-requires cast-number number-requires-3 returns)

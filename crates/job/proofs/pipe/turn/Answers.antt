@@ -1,0 +1,16 @@
+-- `turn` fetches where bytes are wanted and does the records at hand. Assumes nothing.
+use native.Mathlib.Omega.{arith}
+use Rattle.job.proofs.Laws.{turned, turned_unread}
+use Rattle.job.proofs.pipe.turn.Goals as goal
+
+pub returns-then-hand : goal.returns-then-hand
+returns-then-hand c =
+    turned_unread c.args.s c.args.input.now c.args.store.now c.refill-hand.result _ c.refill-hand.ensures c.args.output.now c.requires.1
+
+pub advance-requires : goal.advance-requires
+advance-requires c =
+    (c.requires.0, c.requires.1, c.refill-hand.ensures.ordered, c.refill-hand.ensures.within, omega (arith, c.requires.5, c.refill-hand.auto.input), c.requires.6)
+
+pub returns : goal.returns
+returns c =
+    turned c.args.s c.args.input.now c.args.store.now c.refill-hand.result _ c.refill-hand.ensures c.advance.result _ _ c.advance.ensures
