@@ -1,4 +1,5 @@
-// The book for programs in C: clear, apply a record and ask, over a store that the caller keeps. include/ngoretaiwhe.h declares them.
+// The book for programs in C: clear, apply a record and ask, over a store that the caller keeps. include/ngoretaiwhe.h declares them, and
+// the crate viewer_c exports them.
 // What each returns and leaves is a definition of specs/Viewer.antt, for any bytes lent; no call requires anything.
 #![tactic(auto)]
 
