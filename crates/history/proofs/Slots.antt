@@ -192,6 +192,7 @@ module _ {A : Type 0} where
   pub entering_at : (n : ℕ) (l : List (Put A)) (x : Put A) → Apart n l → Memᴰ x l
       → (x.slot < n) × (last_at (entering l) x.slot ≡ some x.entry)
   unfolding last_at
+  entering_at n [] x p m = elim m [ ]
   entering_at n (y ∷ l) x p (Memᴰ.head e) =
       rw e (p.0, rw (eq-eqb y.slot y.slot refl))
   entering_at n (y ∷ l) x p (Memᴰ.tail m) =
@@ -199,6 +200,7 @@ module _ {A : Type 0} where
       (ih.0, rw (ne_eqb x.slot y.slot (λ e. other l m p.1 (sym e))) ih.1)
     where
       other : (l : List (Put A)) → Memᴰ x l → All (λ z. y.slot ≢ z.slot) l → y.slot ≢ x.slot
+      other [] m q = elim m [ ]
       other (z ∷ l) (Memᴰ.head e) q = rw e q.0
       other (z ∷ l) (Memᴰ.tail m) q = other l m q.1
 

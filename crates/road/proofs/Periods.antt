@@ -4,7 +4,7 @@ use Prim.Native.Nat.{ℕ}
 use mathlib.Core.Path.{◌≡◌, refl, sym, ap, ◌∙◌}
 use mathlib.Core.List.{List, [], ◌∷◌}
 use native.Mathlib.Omega.{arith}
-use lib.ListN.{length, get_or, length-map}
+use lib.ListN.{length, get_or}
 use mir.Val.{Val}
 use denote.Laws.{Is}
 use denote.Struct.Declared.{row}
@@ -46,4 +46,4 @@ periods_again s h = ap (with s) (three s.traffic h)
 
 -- what owning a source tells of it
 pub owned_periods : (s : Source) (vs : List Val) → Is (row the_type) s vs → length s.traffic ≡ 3
-owned_periods s vs p = sym (length-map s.traffic _) ∙ p.1.1.1.1.1.1.1.1.1.1.1.1.0.1.0.1
+owned_periods s vs p = p.1.1.1.1.1.1.1.1.1.1.1.1.0.1.0.1

@@ -1,9 +1,9 @@
 -- `hear` works the pair out where somebody is. Assumes nothing.
+use borrow.Author.Tests.{not-true, not-false}
 use mathlib.Core.Path.{◌≡◌, refl, sym, ap, subst, ◌∙◌}
 use Prim.Native.Nat.{ℕ}
 use mathlib.Core.Bool.{Bool, true, cond}
 use borrow.Author.Rules.{rules}
-use borrow.Author.Tests.{not-true, not-false}
 use Rattle.screen.specs.Screen.{walls_of}
 use Rattle.road.specs.declared.Pair.{Pair}
 use Rattle.road.specs.Reach.{pair_of}
@@ -15,7 +15,7 @@ use Rattle.afresh.proofs.hear.Tie as tie
 
 -- somebody is in the seat
 used : (c : tie.Else-not-seat) → c.args.t.seat.used ≡ true
-used c = not-false _ c.if-not-seat.false
+used c = (not-false _ c.if-not-seat.false)
 
 -- with the pair that was worked out
 by_pair : (c : tie.After-pair) (q : Pair) → c.pair.result ≡ q → let a = c.args in
@@ -28,7 +28,7 @@ by_pair c q e =
 returns : tie.Need-returns-then-not-seat
 returns c =
     let a = c.args in
-    sym (ap (λ (b : Bool). cond b (heard_by (pair_of (walls_of a.walls.now) a.s a.t.seat.held.who) a.t) a.t) (not-true a.t.seat.used c.if-not-seat.true))
+    sym (ap (λ (b : Bool). cond b (heard_by (pair_of (walls_of a.walls.now) a.s a.t.seat.held.who) a.t) a.t) (not-true _ c.if-not-seat.true))
 
 pair-requires : tie.Need-pair-requires
 pair-requires c κs =
@@ -40,10 +40,10 @@ enum-known-shares c = search rules
 
 add-requires : tie.Need-add-requires
 add-requires c κs =
-    let p = c.before.before.before in
+    let p = c.before in
     let s = p.before.before.before.before.before.before.before in
     let a = s.args in
-    (s.requires.4, subst Mild (sym p.pair.ensures ∙ c.shares-1.given.1) (pair_bounded (walls_of a.walls.now) a.s a.t.seat.held.who))
+    (s.requires.4, subst Mild (sym p.pair.ensures ∙ c.in-Heard.is) (pair_bounded (walls_of a.walls.now) a.s a.t.seat.held.who))
 
 enum-known-why : tie.Need-enum_known-why
 enum-known-why c = search rules
@@ -52,10 +52,10 @@ bar-requires : tie.Need-bar-requires
 bar-requires c κs = search rules
 
 returns-2 : tie.Need-returns-in-Heard
-returns-2 c = c.add.ensures ∙ by_pair c.before.before.before.before _ c.shares-1.given.1
+returns-2 c = c.add.ensures ∙ by_pair c.before.before _ c.in-Heard.is
 
 returns-3 : tie.Need-returns-in-Barred
-returns-3 c = c.bar.ensures ∙ by_pair c.before.before.before.before _ c.why-1.given.1
+returns-3 c = c.bar.ensures ∙ by_pair c.before.before _ c.in-Barred.is
 
 pub hear_spec : {M : Type 1} → statement M
 hear_spec =

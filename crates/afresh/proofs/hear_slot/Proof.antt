@@ -5,7 +5,6 @@ use native.Mathlib.Omega.{arith}
 use borrow.Author.Rules.{rules}
 use mathlib.Core.Bool.{true}
 use mathlib.Core.Option.{Option, none}
-use borrow.Author.Tests.{not-true, not-false}
 use lib.ListN.{get_or}
 use Rattle.screen.specs.Screen.{walls_of}
 use Rattle.road.specs.declared.Source.{Source}
@@ -26,7 +25,7 @@ returns c =
     let s = c.before.before.before.before in
     let a = s.args in
     let m = a.store.now in
-    let free = source_slot_free m a.i s.requires.1 s.requires.2 (source_slot_of (source_at a.i m)) refl (sym c.marked.ensures ∙ not-true _ c.if-not-marked.true) in
+    let free = source_slot_free m a.i s.requires.1 s.requires.2 (source_slot_of (source_at a.i m)) refl (sym c.marked.ensures ∙ c.if-not-marked.true) in
     ap (λ (o : Option Source). heard_at (pair_of (walls_of a.walls.now)) o a.tallies) (sym free)
 
 source-slot-requires : tie.Need-source_slot-requires
@@ -34,7 +33,7 @@ source-slot-requires c κs = let s = c.before.before.before.before in (s.require
 
 -- the slot is in use
 in_use : (c : tie.After-source_slot) → c.source_slot.result.used ≡ true
-in_use c = ap (λ (t : SourceSlot). t.used) c.source_slot.ensures ∙ sym c.marked.ensures ∙ not-false _ c.if-not-marked.false
+in_use c = ap (λ (t : SourceSlot). t.used) c.source_slot.ensures ∙ sym c.marked.ensures ∙ c.if-not-marked.false
 
 stands : (c : tie.After-source_slot) → SourceStands c.source_slot.result.source
 stands c =

@@ -13,10 +13,10 @@ use Rattle.ledger.specs.Ledger.{begun, heard_all}
 use Rattle.ledger.proofs.Tallies.{AllCounted}
 use Rattle.afresh.proofs.reckon.Given as goal
 
-record Reckoning (walls store : List ℕ) (ts : List Tally) (i : ℕ) : Type 0 where
-  within : i ≤ source_count
-  counted : AllCounted i ts
-  comes : map (heard_all (pair_of (walls_of walls)) (present (drop i (book_of store).sources))) ts
+pub record Reckoning (walls store : List ℕ) (ts : List Tally) (i : ℕ) : Type 0 where
+  pub within : i ≤ source_count
+  pub counted : AllCounted i ts
+  pub comes : map (heard_all (pair_of (walls_of walls)) (present (drop i (book_of store).sources))) ts
       ≡ map (λ o. heard_all (pair_of (walls_of walls)) (present (book_of store).sources) (begun o)) (book_of store).receivers
 
 abbrev pub invariant-loop-i : goal.invariant-loop-i

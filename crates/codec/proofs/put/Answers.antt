@@ -22,13 +22,10 @@ pub put_fields-requires : goal.put_fields-requires
 put_fields-requires c =
     let e : c.shape_of-n.result.count ≡ length (layout_of c.args.kind) = ap (λ (x : Shape). x.count) c.shape_of-n.ensures in
     let f : c.layout_of.result.now ≡ layout_of c.args.kind = c.layout_of.ensures in
-    let z : size c.layout_of.result.now ≡ size (layout_of c.args.kind) = ap size f in (
-      ap sized f ∙ row_sized c.args.kind,
-      (
+    let z : size c.layout_of.result.now ≡ size (layout_of c.args.kind) = ap size f in record { ws_value = ap sized f ∙ row_sized c.args.kind; ws_in_bounds = (
         omega arith,
         subst (λ (ws : List ℕ). Within ws (take c.shape_of-n.result.count c.args.v.now)) (sym f) (subst (λ (m : ℕ). Within (layout_of c.args.kind) (take m c.args.v.now)) (sym e) c.requires.1),
-      ),
-    )
+      ) }
 
 pub returns : goal.returns
 returns c =

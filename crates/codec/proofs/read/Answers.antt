@@ -85,7 +85,7 @@ hear-requires c =
     let m = ap (λ (x : Shape). x.count) c.shape_of-shape.ensures in
     let v = read_into c.kind_of-kind.result c.shape_of-shape.result.count c.args.job.now c.values.ensures m in
     let f = first_values c.kind_of-kind.result c.shape_of-shape.result.count c.args.job.now _ m v in
-    (c.requires, (omega arith, subst (Within (layout_of c.kind_of-kind.result)) (sym f) (fields_within (layout_of c.kind_of-kind.result) c.args.job.now)))
+    record { steps_value = c.requires; nonzero = (omega arith, subst (Within (layout_of c.kind_of-kind.result)) (sym f) (fields_within (layout_of c.kind_of-kind.result) c.args.job.now)) }
 
 pub returns : goal.returns
 returns c =

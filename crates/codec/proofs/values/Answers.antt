@@ -14,7 +14,7 @@ use Rattle.codec.proofs.values.Goals as goal
 pub take_fields-requires : goal.take_fields-requires
 take_fields-requires c =
     let z : size c.layout_of.result.now ≡ size (layout_of c.args.kind) = ap size c.layout_of.ensures in
-    (ap sized c.layout_of.ensures ∙ row_sized c.args.kind, (omega arith, c.requires.1 ∙ sym (ap length c.layout_of.ensures), none_spare))
+    record { ws_value = ap sized c.layout_of.ensures ∙ row_sized c.args.kind; ws_in_bounds = (omega arith, c.requires.1 ∙ sym (ap length c.layout_of.ensures), none_spare) }
 
 pub returns : goal.returns
 returns c =

@@ -28,21 +28,21 @@ voice-day-requires c =
     let f = fit_source c.args.s c.requires.1 in
     let p = pace_small c.args.s _ c.pace_of-pace.ensures in
     let t = steady_small c.args.s _ c.steady_of-steady.ensures in
-    ((c.requires.0, p.car, p.gain, f.day.few, f.day.part), (t.up, t.down))
+    record { steps_value = (c.requires.0, p.car, p.gain, f.day.few, f.day.part); up_bound = (t.up, t.down) }
 
 pub voice-evening-requires : goal.voice-evening-requires
 voice-evening-requires c =
     let f = fit_source c.args.s c.requires.1 in
     let p = pace_small c.args.s _ c.pace_of-pace.ensures in
     let t = steady_small c.args.s _ c.steady_of-steady.ensures in
-    ((c.requires.0, p.car, p.gain, f.evening.few, f.evening.part), (t.up, t.down))
+    record { steps_value = (c.requires.0, p.car, p.gain, f.evening.few, f.evening.part); up_bound = (t.up, t.down) }
 
 pub voice-night-requires : goal.voice-night-requires
 voice-night-requires c =
     let f = fit_source c.args.s c.requires.1 in
     let p = pace_small c.args.s _ c.pace_of-pace.ensures in
     let t = steady_small c.args.s _ c.steady_of-steady.ensures in
-    ((c.requires.0, p.car, p.gain, f.night.few, f.night.part), (t.up, t.down))
+    record { steps_value = (c.requires.0, p.car, p.gain, f.night.few, f.night.part); up_bound = (t.up, t.down) }
 
 pub returns : goal.returns
 unfolding voices_of

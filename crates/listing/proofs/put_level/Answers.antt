@@ -10,13 +10,7 @@ use Rattle.text.proofs.Writing.{ends}
 use Rattle.listing.proofs.put_level.Goals as goal
 
 pub returns-in-Quiet : goal.returns-in-Quiet
-returns-in-Quiet c = (
-  c.put_text.ensures ∙ ap (λ (x : Index). written c.args.at (32 ∷ level_text x) c.args.out.now) (sym c.in-Quiet.is),
-  omega (arith, ends _ _ _ _ _ c.put_text.ensures),
-)
+returns-in-Quiet c = record { out_after = c.put_text.ensures ∙ ap (λ (x : Index). written c.args.at (32 ∷ level_text x) c.args.out.now) (sym c.in-Quiet.is); upper_bound = omega (arith, ends _ _ _ _ _ c.put_text.ensures) }
 
 pub returns-in-Tenths : goal.returns-in-Tenths
-returns-in-Tenths c = (
-  c.put_tenths.ensures.out_after ∙ ap (λ (x : Index). written c.args.at (32 ∷ level_text x) c.args.out.now) (sym c.in-Tenths.is),
-  c.put_tenths.ensures.upper_bound,
-)
+returns-in-Tenths c = record { out_after = c.put_tenths.ensures.out_after ∙ ap (λ (x : Index). written c.args.at (32 ∷ level_text x) c.args.out.now) (sym c.in-Tenths.is); upper_bound = c.put_tenths.ensures.upper_bound }

@@ -105,7 +105,7 @@ screened-requires c κs =
     let s = begun p in
     let f = piece s in
     let g = receiver s in (
-      (s.pre.0.0, record { x = omega (arith, f.x); y = omega (arith, f.y) }, record { x = omega (arith, g.x); y = omega (arith, g.y) }, s.pre.0.4),
+      (s.requires.0.0, record { x = omega (arith, f.x); y = omega (arith, f.y) }, record { x = omega (arith, g.x); y = omega (arith, g.y) }, s.requires.0.4),
       (p.plan-q0.ensures, reaches p (omega (arith, c.if-q-lt-NEAREST.false)) (omega (arith, c.if-q-gt-FARTHEST.false))),
     )
 
@@ -127,7 +127,7 @@ enum-known-screening : tie.Need-enum_known-screening
 enum-known-screening c = search rules
 
 add-h : tie.Need-overflow_add-h
-add-h c = omega (arith, (receiver (begun c.before.before.before.before.before.before.before.before.before)).high)
+add-h c = omega (arith, (receiver (begun c.before.before.before.before.before.before.before)).high)
 
 cast-h : tie.Need-overflow_cast-h
 cast-h c = search rules
@@ -135,16 +135,16 @@ cast-h c = search rules
 hear-requires : tie.Need-hear-requires
 unfolding Laid
 hear-requires c κs =
-    let t = c.before.before.before.before.before in
+    let t = c.before.before.before.before in
     let p = t.before.before.before.before.before in
     let start = begun p in
     let a = start.args in
-    let f = start.pre.0 in
+    let f = start.requires.0 in
     let near = t.if-q-lt-NEAREST.false in
     let far = t.if-q-gt-FARTHEST.false in
     let l = small_length a.sent.whole.length (piece start).some (piece start).short in
     let e = reaches p (omega (arith, near)) (omega (arith, far)) in
-    let d = loss_most _ _ a.r.height _ _ (walls_of a.walls.now) _ f.4 e (sym t.screened.ensures ∙ c.screening.given.1) in (
+    let d = loss_most _ _ a.r.height _ _ (walls_of a.walls.now) _ f.4 e (sym t.screened.ensures ∙ c.in-Off.is) in (
       (f.0, f.1, e.some, e.rises, omega (arith, far), omega (arith, (receiver start).high)),
       (rw f.3 l.up, rw f.3 l.down, d),
     )
@@ -158,19 +158,18 @@ placed c =
 
 returns-4 : tie.Need-returns-in-Twice
 returns-4 c =
-    let t = c.before.before in
+    let t = c.before in
     let a = (begun t.before.before.before.before.before).args in
-    sym (one_walled a.sent.whole a.r (walls_of a.walls.now) a.sent.voices (placed t) (sym (taken t) ∙ c.enum_told-1.given.1))
+    sym (one_walled a.sent.whole a.r (walls_of a.walls.now) a.sent.voices (placed t) (sym (taken t) ∙ c.in-Twice.is))
 
 returns-5 : tie.Need-returns-in-Off
 returns-5 c =
-    let t = c.before.before.before.before.before.before in
+    let t = c.before.before.before.before.before in
     let p = t.before.before.before.before.before in
     let start = begun p in
     let a = start.args in
-    let e = c.screening.given in
-    c.hear.ensures ∙ (λ i. hear_of a.sent.voices (start.pre.0.3 i) (p.plan-q0.ensures i) (apart p i) (ray_height a.r) e.0.0)
-    ∙ sym (one_heard a.sent.whole a.r (walls_of a.walls.now) a.sent.voices (placed t) e.0.0 (sym (taken t) ∙ e.1))
+    c.hear.ensures ∙ (λ i. hear_of a.sent.voices (start.requires.0.3 i) (p.plan-q0.ensures i) (apart p i) (ray_height a.r) c.in-Off.screening)
+    ∙ sym (one_heard a.sent.whole a.r (walls_of a.walls.now) a.sent.voices (placed t) c.in-Off.screening (sym (taken t) ∙ c.in-Off.is))
 
 pub alone_spec : {M : Type 1} → statement M
 alone_spec =

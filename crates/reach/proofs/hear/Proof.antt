@@ -94,15 +94,15 @@ share-requires-3 c κs =
 
 -- the share by the way and the root that were found is the part of the period
 heard : (c : tie.After-way-over) (i : ℕ) (x : Part) → let a = c.args in
-    x ≡ voiced_part (get_or a.t2 i silent) (whole c ⊕ weather_term (weather_of i) a.h c.last_lines-lines.result.near.root)
-    → x ≡ part_in a.t2 a.length a.q0 a.q a.h a.screening i
+    x ≡ voiced_part (get_or a.voices i silent) (whole c ⊕ weather_term (weather_of i) a.h c.last_lines-lines.result.near.root)
+    → x ≡ part_in a.voices a.length a.q0 a.q a.h a.screening i
 heard c i x e =
     let a = c.args in
     let f = far_is c.before in
     let n = near_is c.before in
     let w : c.way-over.result ≡ distance_term a.q (root_of a.q) ⊕ obstacle_term a.h (root_of a.q) a.screening =
     c.way-over.ensures ∙ ap (λ (r : ℕ). distance_term a.q r ⊕ obstacle_term a.h r a.screening) f in
-    e ∙ (λ j. voiced_part (get_or a.t2 i silent) (a.length ⊕ w j ⊕ weather_term (weather_of i) a.h (n j)))
+    e ∙ (λ j. voiced_part (get_or a.voices i silent) (a.length ⊕ w j ⊕ weather_term (weather_of i) a.h (n j)))
 
 told_loud : (a b d : Part) → (a.loud || b.loud || d.loud) ≡ true → pair_by a b d ≡ Barred Loud
 told_loud a b d e = rw e
@@ -116,7 +116,7 @@ module _ (c : tie.After-share-night) where
 
   parts : let a = way.before.before.args in
       pair_by c.share-day.result c.share-evening.result c.share-night.result
-      ≡ hear_of a.t2 a.length a.q0 a.q a.h a.screening
+      ≡ hear_of a.voices a.length a.q0 a.q a.h a.screening
   unfolding hear_of
   parts =
       let day = heard way 0 _ c.share-day.ensures in

@@ -51,7 +51,7 @@ enum_told c = search rules
 
 alone-requires : tie.Need-alone-requires
 alone-requires c κs =
-    let s = c.before.before.before in
+    let s = c.before.before in
     let f = piece s in
     ((s.requires.0, sounding s, s.requires.3, lengthened s, s.requires.4), (f.x, f.y, f.some, f.short))
 
@@ -60,21 +60,21 @@ enum-known-course c = search rules
 
 along-requires : tie.Need-along-requires
 along-requires c κs =
-    let s = c.before.before.before.before.before.before in
-    let e = c.course-1.given.1 in
+    let s = c.before.before.before.before in
+    let e = c.in-Between.is in
     let f = subst FitCourse e (source s).course in
     ((s.requires.0, sounding s, s.requires.3, s.requires.4), (f.mapped, whole s ∙ ap whole_of e, f.some, f.short))
 
 returns : tie.Need-returns-in-Uncut
 returns c =
-    let s = c.before.before.before.before in
-    let e = c.enum_told-1.given.1 in
+    let s = c.before.before.before in
+    let e = c.in-Uncut.is in
     c.alone.ensures ∙ sent_by s (s.args.sent.whole ∷ []) (ap (pieces_for s.args.r) e ∙ sym (ap (λ (p : Piece). p ∷ []) (whole s ∙ ap whole_of e)))
 
 returns-2 : tie.Need-returns-in-Between
 returns-2 c =
-    let s = c.before.before.before.before.before.before.before in
-    c.along.ensures ∙ sent_by s _ (ap (pieces_for s.args.r) c.course-1.given.1)
+    let s = c.before.before.before.before.before in
+    c.along.ensures ∙ sent_by s _ (ap (pieces_for s.args.r) c.in-Between.is)
 
 pub pair_spec : {M : Type 1} → statement M
 pair_spec =

@@ -4,7 +4,6 @@ use Prim.Native.Nat.{ℕ, ◌+◌, ◌-◌, ◌*◌, ◌/◌, ◌≤◌, ◌<◌
 use native.Mathlib.Omega.{arith}
 use borrow.Author.Rules.{rules}
 use mathlib.Core.Bool.{Bool, true, false}
-use borrow.Author.Tests.{not-true, not-false}
 use Rattle.road.specs.declared.Term.{Term}
 use Rattle.road.specs.declared.Voice.{Voice}
 use Rattle.road.specs.declared.Part.{Part}
@@ -12,6 +11,7 @@ use Rattle.road.specs.Term.{◌⊕◌}
 use Rattle.road.specs.Reach.{weather_term}
 use Rattle.road.proofs.Sums.{part_silent, part_loud, part_heard}
 use Rattle.road.proofs.Pairs.{weather_most}
+use borrow.Author.Tests.{not-true, not-false}
 use Rattle.reach.proofs.share.Statement.{statement}
 use Rattle.reach.proofs.share.Tie as tie
 

@@ -11,7 +11,7 @@ unfolding Laid
 screening-requires c =
     let e : met_of c.args.p c.args.r (walls_of c.args.walls.now) ≡ One c.in-One.w = sym c.meet.ensures ∙ c.in-One.is in
     let w = one_chosen c.args.p c.args.r (walls_of c.args.walls.now) c.in-One.w c.requires.steps_value.3 e in
-    ((c.requires.steps_value.0, c.requires.steps_value.1, c.requires.steps_value.2, w.stands, w.counted), c.requires.q0_value)
+    record { steps_value = (c.requires.steps_value.0, c.requires.steps_value.1, c.requires.steps_value.2, w.stands, w.counted); q0_value = c.requires.q0_value }
 
 pub returns-in-Nothing : goal.returns-in-Nothing
 unfolding loss_of

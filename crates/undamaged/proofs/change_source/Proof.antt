@@ -26,9 +26,9 @@ abbrev after : tie.Start → List (Option Held) → Book
 after c rs = let b = book_of c.args.store.now in book (set b.sources c.args.i (source_of c.args.comes)) rs b.walls
 
 -- the round was gone among the walls of the book, and who went is in the slot
-rounded : (g : tie.After-go_round-found) → let s = g.before.before.before.before.before.before.before.before in Rounded (made s) (book_of s.args.store.now).receivers g.go_round-found.result
+rounded : (g : tie.After-go_round-found) → let s = g.before.before.before.before.before.before in Rounded (made s) (book_of s.args.store.now).receivers g.go_round-found.result
 rounded g =
-    let s = g.before.before.before.before.before.before.before.before in
+    let s = g.before.before.before.before.before.before in
     subst₂
     (λ (pair : Pairing) (goes : Option Source). Rounded (exchange pair goes (source_of s.args.comes)) (book_of s.args.store.now).receivers g.go_round-found.result)
     (ap pair_of g.standing-n.ensures.walls) s.requires.5 g.go_round-found.ensures
@@ -59,16 +59,16 @@ same_length c = search rules
 
 returns : tie.Need-returns-then-found
 returns c =
-    let g = c.before.before.before in
-    let start = g.before.before.before.before.before.before.before.before in
-    told_late start.args.store.now (made start) (after start) g.go_round-found.result (rounded g) c.enum_told-1.given.1 c.if-found.true
+    let g = c.before.before in
+    let start = g.before.before.before.before.before.before in
+    told_late start.args.store.now (made start) (after start) g.go_round-found.result (rounded g) c.in-Nowhere.is c.if-found.true
 
 write-seats-requires : tie.Need-write_seats-requires
 write-seats-requires c κs =
-    let g = c.before.before.before.before.before in
-    let start = g.before.before.before.before.before.before.before.before in
+    let g = c.before.before.before.before in
+    let start = g.before.before.before.before.before.before in
     let s = start.args.store.now in
-    (start.requires.1, change_stand (made start) (book_of s) g.go_round-found.result (rounded g) c.enum_told-1.given.1 (exchange_sound (pair_in (book_of s)) (get_or (book_of s).sources start.args.i none) (source_of start.args.comes)) (sound_book s start.requires.1) c.if-found.false)
+    (start.requires.1, change_stand (made start) (book_of s) g.go_round-found.result (rounded g) c.in-Nowhere.is (exchange_sound (pair_in (book_of s)) (get_or (book_of s).sources start.args.i none) (source_of start.args.comes)) (sound_book s start.requires.1) c.if-found.false)
 
 write-source-requires : tie.Need-write_source-requires
 write-source-requires c κs = search rules
@@ -78,9 +78,9 @@ same-length-2 c = search rules
 
 returns-2 : tie.Need-returns-in-At
 returns-2 c =
-    let g = c.before.before.before in
-    let start = g.before.before.before.before.before.before.before.before in
-    told_barred start.args.store.now (made start) (after start) g.go_round-found.result (rounded g) _ c.stop-1.given.1
+    let g = c.before in
+    let start = g.before.before.before.before.before.before in
+    told_barred start.args.store.now (made start) (after start) g.go_round-found.result (rounded g) _ c.in-At.is
 
 same-length-3 : tie.Need-shape_of-store-else-found
 same-length-3 c = search rules
@@ -89,10 +89,10 @@ returns-3 : tie.Need-returns-else-found
 returns-3 c =
     let p = c.before.before in
     let w = p.before.before.before.before in
-    let g = w.before.before.before.before.before.before in
-    let start = g.before.before.before.before.before.before.before.before in
+    let g = w.before.before.before.before.before in
+    let start = g.before.before.before.before.before.before in
     let s = start.args.store.now in
-    told_done s (made start) (after start) g.go_round-found.result (rounded g) w.enum_told-1.given.1 _ w.if-found.false
+    told_done s (made start) (after start) g.go_round-found.result (rounded g) w.in-Nowhere.is _ w.if-found.false
     (p.write_source.ensures ∙ ap (λ (b : Book). book_bytes (book (set b.sources start.args.i (source_of start.args.comes)) b.receivers b.walls)) w.write_seats.ensures.1)
 
 pub change_source_spec : {M : Type 1} → statement M

@@ -32,9 +32,9 @@ abbrev after : tie.Start → List (Option Held) → Book
 after c rs = let b = book_of c.args.store.now in book b.sources rs (set b.walls c.args.k (held c))
 
 -- the round was gone among the walls of the book
-rounded : (g : tie.After-go_afresh-renewed) → let s = g.before.before.before.before.before.before.before.before in Rounded (made s) (book_of s.args.store.now).receivers g.go_afresh-renewed.result
+rounded : (g : tie.After-go_afresh-renewed) → let s = g.before.before.before.before.before.before in Rounded (made s) (book_of s.args.store.now).receivers g.go_afresh-renewed.result
 rounded g =
-    let s = g.before.before.before.before.before.before.before.before in
+    let s = g.before.before.before.before.before.before in
     subst (λ (ws : List Wall). Rounded (renewing (pair_of ws) (present (book_of s.args.store.now).sources)) (book_of s.args.store.now).receivers g.go_afresh-renewed.result) g.changed-n.ensures.walls g.go_afresh-renewed.ensures
 
 slice-aggregate-changed : tie.Need-slice_bounds-changed-end
@@ -63,16 +63,16 @@ same_length c = search rules
 
 returns : tie.Need-returns-then-renewed
 returns c =
-    let g = c.before.before.before in
-    let start = g.before.before.before.before.before.before.before.before in
-    told_late start.args.store.now (made start) (after start) g.go_afresh-renewed.result (rounded g) c.enum_told-1.given.1 c.if-renewed.true
+    let g = c.before.before in
+    let start = g.before.before.before.before.before.before in
+    told_late start.args.store.now (made start) (after start) g.go_afresh-renewed.result (rounded g) c.in-Nowhere.is c.if-renewed.true
 
 write-seats-requires : tie.Need-write_seats-requires
 write-seats-requires c κs =
-    let g = c.before.before.before.before.before in
-    let start = g.before.before.before.before.before.before.before.before in
+    let g = c.before.before.before.before in
+    let start = g.before.before.before.before.before.before in
     let s = start.args.store.now in
-    (start.requires.1, change_stand (made start) (book_of s) g.go_afresh-renewed.result (rounded g) c.enum_told-1.given.1 (renewing_sound _ (book_of s).sources ((sound_book s start.requires.1).source_slots_lem ∙ sym many_sources)) (sound_book s start.requires.1) c.if-renewed.false)
+    (start.requires.1, change_stand (made start) (book_of s) g.go_afresh-renewed.result (rounded g) c.in-Nowhere.is (renewing_sound _ (book_of s).sources ((sound_book s start.requires.1).source_slots_lem ∙ sym many_sources)) (sound_book s start.requires.1) c.if-renewed.false)
 
 write-wall-requires : tie.Need-write_wall-requires
 write-wall-requires c κs = search rules
@@ -82,9 +82,9 @@ same-length-2 c = search rules
 
 returns-2 : tie.Need-returns-in-At
 returns-2 c =
-    let g = c.before.before.before in
-    let start = g.before.before.before.before.before.before.before.before in
-    told_barred start.args.store.now (made start) (after start) g.go_afresh-renewed.result (rounded g) _ c.stop-1.given.1
+    let g = c.before in
+    let start = g.before.before.before.before.before.before in
+    told_barred start.args.store.now (made start) (after start) g.go_afresh-renewed.result (rounded g) _ c.in-At.is
 
 same-length-3 : tie.Need-shape_of-store-else-renewed
 same-length-3 c = search rules
@@ -93,10 +93,10 @@ returns-3 : tie.Need-returns-else-renewed
 returns-3 c =
     let p = c.before.before in
     let w = p.before.before.before.before in
-    let g = w.before.before.before.before.before.before in
-    let start = g.before.before.before.before.before.before.before.before in
+    let g = w.before.before.before.before.before in
+    let start = g.before.before.before.before.before.before in
     let s = start.args.store.now in
-    told_done s (made start) (after start) g.go_afresh-renewed.result (rounded g) w.enum_told-1.given.1 _ w.if-renewed.false
+    told_done s (made start) (after start) g.go_afresh-renewed.result (rounded g) w.in-Nowhere.is _ w.if-renewed.false
     (p.write_wall.ensures ∙ ap (λ (b : Book). book_bytes (book b.sources b.receivers (set b.walls start.args.k (held start)))) w.write_seats.ensures.1)
 
 pub change_wall_spec : {M : Type 1} → statement M

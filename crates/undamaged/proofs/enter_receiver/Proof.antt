@@ -50,14 +50,14 @@ slice-aggregate-gather : tie.Need-slice_bounds-gather-end
 slice-aggregate-gather c = sym (length-take-le _ _ c.standing-n.ensures.part)
 
 -- the sources were gathered among the walls of the book
-gathered : (g : tie.After-gather-brought) → let s = g.before.before.before.before.before.before.before.before in Gathering (pair_in (book_of s.args.store.now)) s.args.r (book_of s.args.store.now).sources g.gather-brought.result
+gathered : (g : tie.After-gather-brought) → let s = g.before.before.before.before.before.before in Gathering (pair_in (book_of s.args.store.now)) s.args.r (book_of s.args.store.now).sources g.gather-brought.result
 gathered g =
-    let s = g.before.before.before.before.before.before.before.before in
+    let s = g.before.before.before.before.before.before in
     subst (λ (ws : List Wall). Gathering (pair_of ws) s.args.r (book_of s.args.store.now).sources g.gather-brought.result) g.standing-n.ensures.walls g.gather-brought.ensures
 
 gather-requires : tie.Need-gather-brought-requires
 gather-requires c κs =
-    let start = c.before.before.before.before.before.before.before in
+    let start = c.before.before.before.before.before in
     (start.requires.0, start.requires.1, start.requires.3, c.standing-n.ensures.laid)
 
 enum-known-stop : tie.Need-enum_known-stop
@@ -69,10 +69,10 @@ enum_told c = search rules
 put-held-requires : tie.Need-put_held-requires
 unfolding bar
 put-held-requires c κs =
-    let g = c.before.before.before.before in
-    let start = g.before.before.before.before.before.before.before.before in
+    let g = c.before.before.before in
+    let start = g.before.before.before.before.before.before in
     let s = start.args.store.now in
-    let clear = stop_none (bar s start.args.r) (sym (gathered g).stop ∙ c.enum_told-1.given.1) in
+    let clear = stop_none (bar s start.args.r) (sym (gathered g).stop ∙ c.in-Nowhere.is) in
     (start.requires.2, (undamaged s start.requires.1).0, (start.requires.3, (gathered g).sound clear))
 
 same_length : tie.Need-shape_of-store-in-At
@@ -81,10 +81,10 @@ same_length c = search rules
 returns : tie.Need-returns-in-At
 unfolding in_slot bar
 returns c =
-    let g = c.before.before.before in
-    let start = g.before.before.before.before.before.before.before.before in
+    let g = c.before in
+    let start = g.before.before.before.before.before.before in
     let s = start.args.store.now in
-    ap (in_slot s start.args.j start.args.r) (sym (stop_some (bar s start.args.r) _ (sym (gathered g).stop ∙ c.stop-1.given.1)))
+    ap (in_slot s start.args.j start.args.r) (sym (stop_some (bar s start.args.r) _ (sym (gathered g).stop ∙ c.in-At.is)))
 
 same-length-2 : tie.Need-shape_of-store-in-Nowhere
 same-length-2 c = search rules
@@ -93,12 +93,12 @@ returns-2 : tie.Need-returns-in-Nowhere
 unfolding in_slot bar
 returns-2 c =
     let p = c.before.before in
-    let g = p.before.before.before.before.before in
-    let start = g.before.before.before.before.before.before.before.before in
+    let g = p.before.before.before.before in
+    let start = g.before.before.before.before.before.before in
     let s = start.args.store.now in
     let j = start.args.j in
     let r = start.args.r in
-    let clear = stop_none (bar s r) (sym (gathered g).stop ∙ p.enum_told-1.given.1) in
+    let clear = stop_none (bar s r) (sym (gathered g).stop ∙ p.in-Nowhere.is) in
     ap (λ (u : List ℕ). (Done, u))
     (p.put_held.ensures ∙ set_held s j (held r g.gather-brought.result.sums) (λ i. (g.slice_known-1.given i).fits) start.requires.1 start.requires.2
     ∙ ap (λ (a : Account). book_bytes (book (book_of s).sources (set (book_of s).receivers j (held r a)) (book_of s).walls)) ((gathered g).sums clear))

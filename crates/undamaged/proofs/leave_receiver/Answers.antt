@@ -1,10 +1,10 @@
 -- `leave_receiver` makes a used slot all zero. Assumes nothing.
 -- what a withdrawal says of a slot
+use borrow.Author.Tests.{not-true, not-false}
 use mathlib.Core.Path.{sym, ap, ◌∙◌}
 use Prim.Native.Nat.{ℕ, ◌-◌}
 use mathlib.Core.List.{List}
 use mathlib.Core.Option.{Option, none}
-use borrow.Author.Tests.{not-true, not-false}
 use lib.ListN.{set}
 use Rattle.store.specs.declared.Held.{Held}
 use Rattle.store.specs.Store.{book, book_of}

@@ -1,11 +1,11 @@
 -- `leave_source` withdraws a source only from a slot that is used. Assumes nothing.
+use borrow.Author.Tests.{not-true, not-false}
 use mathlib.Core.Path.{◌≡◌, refl, sym, ap, ◌∙◌, subst}
 use mathlib.Core.List.{List}
 use mathlib.Core.Option.{Option, none}
 use mathlib.Core.Bool.{true}
 use Prim.Native.Nat.{ℕ}
 use borrow.Author.Rules.{rules}
-use borrow.Author.Tests.{not-true, not-false}
 use Rattle.road.specs.declared.Source.{Source}
 use Rattle.store.specs.Store.{book_of, SourceStands}
 use Rattle.store.proofs.Laws.{undamaged}
@@ -24,7 +24,7 @@ out c o =
     told a.store.now (from_used o (λ (s : Source). change_source a.i none (book_of a.store.now)))
 
 source-slot-requires : tie.Need-source_slot-source_slot-requires
-source-slot-requires c κs = let start = c.before.before in (start.requires.2, (undamaged start.args.store.now start.requires.1).0)
+source-slot-requires c κs = let start = c.before in (start.requires.2, (undamaged start.args.store.now start.requires.1).0)
 
 same_length : tie.Need-shape_of-store-then-not-source_slot
 same_length c = search rules
@@ -32,19 +32,19 @@ same_length c = search rules
 returns : tie.Need-returns-then-not-source_slot
 returns c =
     let t = c.before.before in
-    let start = t.before.before.before in
+    let start = t.before.before in
     ap (out start) (sym (source_slot_free start.args.store.now start.args.i start.requires.1 start.requires.2 t.source_slot-source_slot.result t.source_slot-source_slot.ensures (not-true _ c.if-not-source_slot.true)))
 
 -- the slot is used, and by a source that may be there
 there : (t : tie.After-source_slot-source_slot) → t.source_slot-source_slot.result.used ≡ true → SourceStands t.source_slot-source_slot.result.source
 there t e =
-    let start = t.before.before.before in
+    let start = t.before.before in
     source_slot_stands start.args.store.now start.args.i start.requires.1 start.requires.2 t.source_slot-source_slot.result t.source_slot-source_slot.ensures e
 
 sends-requires : tie.Need-sends-goes-requires
 sends-requires c κs =
-    let t = c.before.before in
-    let start = t.before.before.before in
+    let t = c.before.before.before in
+    let start = t.before.before in
     (start.requires.0, (there t (not-false _ c.if-not-source_slot.false)).0)
 
 nobody-requires : tie.Need-nobody-comes-requires
@@ -54,9 +54,9 @@ change-source-requires : tie.Need-change_source-requires
 change-source-requires c κs =
     let n = c.before in
     let f = n.before.before in
-    let t = f.before.before in
-    let start = t.before.before.before in
-    let used = not-false _ f.if-not-source_slot.false in
+    let t = f.before.before.before in
+    let start = t.before.before in
+    let used = (not-false _ f.if-not-source_slot.false) in
     let is = source_slot_used start.args.store.now start.args.i start.requires.1 start.requires.2 t.source_slot-source_slot.result t.source_slot-source_slot.ensures used in (
       start.requires.0,
       start.requires.1,

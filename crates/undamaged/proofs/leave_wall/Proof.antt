@@ -1,11 +1,11 @@
 -- `leave_wall` withdraws a wall only from a slot that is used. Assumes nothing.
+use borrow.Author.Tests.{not-true, not-false}
 use mathlib.Core.Path.{◌≡◌, sym, ap, ◌∙◌}
 use mathlib.Core.List.{List}
 use mathlib.Core.Option.{Option, none}
 use Prim.Native.Nat.{ℕ}
 use native.Mathlib.Omega.{arith}
 use borrow.Author.Rules.{rules}
-use borrow.Author.Tests.{not-true, not-false}
 use Rattle.screen.specs.declared.Wall.{Wall}
 use Rattle.store.specs.Store.{book_of}
 use Rattle.store.proofs.Laws.{undamaged}
@@ -22,7 +22,7 @@ out c o =
     told a.store.now (from_used o (λ (w : Wall). change_wall a.k none (book_of a.store.now)))
 
 wall-slot-requires : tie.Need-wall_slot-wall_slot-requires
-wall-slot-requires c κs = let start = c.before.before in (start.requires.2, (undamaged start.args.store.now start.requires.1).0)
+wall-slot-requires c κs = let start = c.before in (start.requires.2, (undamaged start.args.store.now start.requires.1).0)
 
 same_length : tie.Need-shape_of-store-then-not-wall_slot
 same_length c = search rules
@@ -30,7 +30,7 @@ same_length c = search rules
 returns : tie.Need-returns-then-not-wall_slot
 returns c =
     let t = c.before.before in
-    let start = t.before.before.before in
+    let start = t.before.before in
     ap (out start) (sym (wall_slot_free start.args.store.now start.args.k start.requires.1 start.requires.2 t.wall_slot-wall_slot.result t.wall_slot-wall_slot.ensures (not-true _ c.if-not-wall_slot.true)))
 
 change-wall-requires : tie.Need-change_wall-requires

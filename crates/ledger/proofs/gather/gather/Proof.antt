@@ -79,11 +79,11 @@ loop-less c = omega arith
 
 loop-again : tie.Need-loop-i-preserved-in-Free invariant-loop decreases-loop
 loop-again c =
-    let h = c.before.before in
+    let h = c.before in
     let lp = h.before.before in
     let start = lp.before.before.before in
     let ws = walls_of start.args.walls.now in
-    let e = nobody (pair_of ws) start.args.r (get_or (book_of start.args.store.now).sources lp.loop-i.i none) (sym h.hear_source.ensures ∙ c.enum_told-1.given.1) in
+    let e = nobody (pair_of ws) start.args.r (get_or (book_of start.args.store.now).sources lp.loop-i.i none) (sym h.hear_source.ensures ∙ c.in-Free.is) in
     (omega arith, gather_free (pair_of ws) (pair_bounded ws) start.args.r (book_of start.args.store.now).sources lp.loop-i.i (within h) lp.loop-i.sums lp.loop-i.invariant.1 e)
 
 enum-known-shares : tie.Need-enum_known-shares invariant-loop decreases-loop
@@ -91,11 +91,11 @@ enum-known-shares c = search rules
 
 plus-requires : tie.Need-plus-sums-requires invariant-loop decreases-loop
 plus-requires c κs =
-    let h = c.before.before.before in
+    let h = c.before in
     let lp = h.before.before in
     let start = lp.before.before.before in
     let ws = walls_of start.args.walls.now in
-    let e = brings (pair_of ws) start.args.r (get_or (book_of start.args.store.now).sources lp.loop-i.i none) _ (sym h.hear_source.ensures ∙ c.shares-1.given.1) in
+    let e = brings (pair_of ws) start.args.r (get_or (book_of start.args.store.now).sources lp.loop-i.i none) _ (sym h.hear_source.ensures ∙ c.in-Heard.is) in
     gather_room (pair_of ws) (pair_bounded ws) start.args.r (book_of start.args.store.now).sources lp.loop-i.i (within h) lp.loop-i.sums lp.loop-i.invariant.1 e.0 _ (omega (arith, h.loop-i-test.true)) e.2
 
 add-i-2 : tie.Need-overflow_add-i-in-Heard invariant-loop decreases-loop
@@ -106,11 +106,11 @@ loop-less-2 c = omega arith
 
 loop-again-2 : tie.Need-loop-i-preserved invariant-loop decreases-loop
 loop-again-2 c =
-    let h = c.before.before.before.before in
+    let h = c.before.before in
     let lp = h.before.before in
     let start = lp.before.before.before in
     let ws = walls_of start.args.walls.now in
-    let e = brings (pair_of ws) start.args.r (get_or (book_of start.args.store.now).sources lp.loop-i.i none) _ (sym h.hear_source.ensures ∙ c.shares-1.given.1) in
+    let e = brings (pair_of ws) start.args.r (get_or (book_of start.args.store.now).sources lp.loop-i.i none) _ (sym h.hear_source.ensures ∙ c.in-Heard.is) in
     (omega arith, rw c.plus-sums.ensures (gather_heard (pair_of ws) (pair_bounded ws) start.args.r (book_of start.args.store.now).sources lp.loop-i.i (within h) lp.loop-i.sums lp.loop-i.invariant.1 e.0 _ e.1 e.2))
 
 enum-known-bar : tie.Need-enum_known-bar invariant-loop decreases-loop
@@ -124,11 +124,11 @@ bar-at-requires c κs = search rules
 
 returns : tie.Need-returns-in-Barred invariant-loop decreases-loop
 returns c =
-    let h = c.before.before.before.before in
+    let h = c.before.before in
     let lp = h.before.before in
     let start = lp.before.before.before in
     let ws = walls_of start.args.walls.now in
-    let e = stops (pair_of ws) start.args.r (get_or (book_of start.args.store.now).sources lp.loop-i.i none) _ (sym h.hear_source.ensures ∙ c.bar-1.given.1) in
+    let e = stops (pair_of ws) start.args.r (get_or (book_of start.args.store.now).sources lp.loop-i.i none) _ (sym h.hear_source.ensures ∙ c.in-Barred.is) in
     gather_stopped (pair_of ws) (pair_bounded ws) start.args.r (book_of start.args.store.now).sources _ _ (ap At c.bar_at.ensures)
     (gather_barred (pair_of ws) (pair_bounded ws) start.args.r (book_of start.args.store.now).sources lp.loop-i.i (within h) lp.loop-i.sums lp.loop-i.invariant.1 e.0 _ e.1 e.2)
 

@@ -4,7 +4,6 @@ use Prim.Native.Nat.{◌-◌}
 use borrow.Author.Rules.{rules}
 use mathlib.Core.Bool.{true}
 use mathlib.Core.Option.{none}
-use borrow.Author.Tests.{not-true, not-false}
 use lib.ListN.{get_or}
 use Rattle.road.specs.declared.Pair.{Pair}
 use Rattle.screen.specs.Screen.{walls_of}
@@ -25,7 +24,7 @@ returns c =
     let start = c.before.before.before.before in
     let s = start.args.store.now in
     let i = start.args.i in
-    let free = source_slot_free s i start.requires.1 start.requires.2 (source_slot_of (source_at i s)) refl (sym c.marked.ensures ∙ not-true _ c.if-not-marked.true) in
+    let free = source_slot_free s i start.requires.1 start.requires.2 (source_slot_of (source_at i s)) refl (sym c.marked.ensures ∙ c.if-not-marked.true) in
     ap (offer_of (pair_of (walls_of start.args.walls.now)) start.args.r) (sym free)
 
 source-slot-requires : tie.Need-source_slot-requires
@@ -33,7 +32,7 @@ source-slot-requires c κs = let start = c.before.before.before.before in (start
 
 -- the slot is in use
 in_use : (c : tie.After-source_slot) → c.source_slot.result.used ≡ true
-in_use c = ap (λ (t : SourceSlot). t.used) c.source_slot.ensures ∙ sym c.marked.ensures ∙ not-false _ c.if-not-marked.false
+in_use c = ap (λ (t : SourceSlot). t.used) c.source_slot.ensures ∙ sym c.marked.ensures ∙ c.if-not-marked.false
 
 stands : (c : tie.After-source_slot) → SourceStands c.source_slot.result.source
 stands c =
@@ -65,10 +64,10 @@ offered c q e =
     ap offer_by (sym e ∙ c.pair.ensures) ∙ ap (offer_of (pair_of (walls_of start.args.walls.now)) start.args.r) (sym used)
 
 returns-2 : tie.Need-returns-in-Heard
-returns-2 c = offered c.before.before.before _ c.shares-1.given.1
+returns-2 c = offered c.before _ c.in-Heard.is
 
 returns-3 : tie.Need-returns-in-Barred
-returns-3 c = offered c.before.before.before _ c.bar-1.given.1
+returns-3 c = offered c.before _ c.in-Barred.is
 
 pub hear_source_spec : {M : Type 1} → statement M
 hear_source_spec =

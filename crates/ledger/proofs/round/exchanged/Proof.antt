@@ -3,7 +3,6 @@
 use mathlib.Core.Path.{◌≡◌, sym, ap, ap₂, ◌∙◌}
 use mathlib.Core.Bool.{Bool, true, false, cond, ◌&&◌}
 use borrow.Author.Rules.{rules}
-use borrow.Author.Tests.{not-true, not-false}
 use Rattle.road.specs.declared.Shares.{Shares}
 use Rattle.road.specs.declared.Pair.{Pair}
 use Rattle.account.specs.declared.Account.{Account}
@@ -28,15 +27,15 @@ covers-requires : tie.Need-covers-requires
 covers-requires c κs = search rules
 
 minus-requires : tie.Need-minus-rest-requires
-minus-requires c κs = sym c.covers.ensures ∙ not-false _ c.if-not-covers.false
+minus-requires c κs = sym c.covers.ensures ∙ c.if-not-covers.false
 
 -- the account, what goes, what comes, and that the pair is heard
 module _ (v : tie.After-covers) where
   abbrev args : tie.Start
-  args = v.before.before.before.before
+  args = v.before.before
 
   abbrev less : Shares
-  less = v.goes-1.given.0.0
+  less = v.in-Heard.less
 
   abbrev rest : Account
   rest = minus_of args.args.sums less
@@ -44,7 +43,7 @@ module _ (v : tie.After-covers) where
   by_tests : (fits : Bool) → covers args.args.sums less && room rest args.args.more ≡ fits → told rest args.args.more fits ≡ exchanged_by args.args.goes args.args.more args.args.sums
   by_tests fits e =
       ap (told rest args.args.more) (sym e)
-      ∙ sym (ap (λ (q : Pair). exchanged_by q args.args.more args.args.sums) v.goes-1.given.1)
+      ∙ sym (ap (λ (q : Pair). exchanged_by q args.args.more args.args.sums) v.in-Heard.is)
 
   short : v.covers.result ≡ false → covers args.args.sums less && room rest args.args.more ≡ false
   short f = ap (λ (b : Bool). b && room rest args.args.more) (sym v.covers.ensures ∙ f)
@@ -56,20 +55,20 @@ module _ (r : tie.After-room) where
 
   tested : (b : Bool) → r.room.result ≡ b → covers (args off).args.sums (less off) && room (rest off) (args off).args.more ≡ b
   tested b e =
-      ap₂ ◌&&◌ (sym off.covers.ensures ∙ not-false _ r.if-not-covers.left)
+      ap₂ ◌&&◌ (sym off.covers.ensures ∙ r.if-not-covers.false)
       (ap (λ (a : Account). room a (args off).args.more) (sym r.minus-rest.ensures) ∙ sym r.room.ensures ∙ e)
 
 returns : tie.Need-returns-then-not-covers
-returns c = by_tests c.before false (short c.before (not-true _ c.if-not-covers.true))
+returns c = by_tests c.before false (short c.before c.if-not-covers.true)
 
 room-requires : tie.Need-room-requires
 room-requires c κs = search rules
 
 returns-2 : tie.Need-returns-then-not-room
-returns-2 c = by_tests (off c.before) false (tested c.before false (not-true _ c.if-not-room.true))
+returns-2 c = by_tests (off c.before) false (tested c.before false c.if-not-room.true)
 
 plus-requires : tie.Need-plus-next-requires
-plus-requires c κs = sym c.room.ensures ∙ not-false _ c.if-not-room.false
+plus-requires c κs = sym c.room.ensures ∙ c.if-not-room.false
 
 returns-3 : tie.Need-returns-in-Barred
 returns-3 c = search rules
@@ -78,7 +77,7 @@ returns-4 : tie.Need-returns-else-not-room
 returns-4 c =
     let r = c.before.before in
     ap Moved (c.plus-next.ensures ∙ ap (λ (a : Account). plus_of a (args (off r)).args.more) r.minus-rest.ensures)
-    ∙ by_tests (off r) true (tested r true (not-false _ c.if-not-room.false))
+    ∙ by_tests (off r) true (tested r true c.if-not-room.false)
 
 pub exchanged_spec : {M : Type 1} → statement M
 exchanged_spec =

@@ -89,9 +89,9 @@ loop-less c = omega arith
 
 loop-again : tie.Need-loop-j-preserved-in-Moved invariant-loop decreases-loop
 loop-again c =
-    let t = c.before.before.before.before.before.before.before in
+    let t = c.before.before.before.before.before in
     let lp = t.loop-j in
-    (omega arith, round_moved (made t) (told t) lp.late lp.seats lp.j (within t) (inside t) lp.invariant.1 t.seat-seat.result.held _ (used t c.if-seat.true) (sym c.meet.ensures ∙ c.sums-1.given.1))
+    (omega arith, round_moved (made t) (told t) lp.late lp.seats lp.j (within t) (inside t) lp.invariant.1 t.seat-seat.result.held _ (used t c.if-seat.true) (sym c.meet.ensures ∙ c.in-Moved.is))
 
 enum_told : tie.Need-enum_told-1 invariant-loop decreases-loop
 enum_told c = search rules
@@ -104,9 +104,9 @@ loop-less-2 c = omega arith
 
 loop-again-2 : tie.Need-loop-j-preserved-in-Late invariant-loop decreases-loop
 loop-again-2 c =
-    let t = c.before.before.before.before.before in
+    let t = c.before.before.before.before in
     let lp = t.loop-j in
-    (omega arith, round_late (made t) (told t) lp.late lp.seats lp.j (within t) (inside t) lp.invariant.1 t.seat-seat.result.held (used t c.if-seat.true) (sym c.meet.ensures ∙ c.enum_told-1.given.1))
+    (omega arith, round_late (made t) (told t) lp.late lp.seats lp.j (within t) (inside t) lp.invariant.1 t.seat-seat.result.held (used t c.if-seat.true) (sym c.meet.ensures ∙ c.in-Late.is))
 
 enum-known-bar : tie.Need-enum_known-bar invariant-loop decreases-loop
 enum-known-bar c = search rules
@@ -119,10 +119,10 @@ bar-at-requires c κs = search rules
 
 returns : tie.Need-returns-in-Barred invariant-loop decreases-loop
 returns c =
-    let t = c.before.before.before.before.before.before.before in
+    let t = c.before.before.before.before.before in
     let lp = t.loop-j in
     round_stopped (made t) (told t) _ _ (ap At c.bar_at.ensures)
-    (round_barred (made t) (told t) lp.late lp.seats lp.j (within t) (inside t) lp.invariant.1 t.seat-seat.result.held _ (used t c.if-seat.true) (sym c.meet.ensures ∙ c.bar-1.given.1))
+    (round_barred (made t) (told t) lp.late lp.seats lp.j (within t) (inside t) lp.invariant.1 t.seat-seat.result.held _ (used t c.if-seat.true) (sym c.meet.ensures ∙ c.in-Barred.is))
 
 add-j-3 : tie.Need-overflow_add-j-else-seat invariant-loop decreases-loop
 add-j-3 c = omega arith

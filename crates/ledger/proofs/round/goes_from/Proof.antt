@@ -15,7 +15,7 @@ sends-requires : tie.Need-sends-requires
 sends-requires c κs = let p = c.requires in (p.0, p.1 c.if-slot.true)
 
 returns : tie.Need-returns-then-slot
-returns c = c.sends.ensures ∙ ap (goes c.before.before) (sym c.if-slot.true)
+returns c = c.sends.ensures ∙ ap (goes c.before.before.before) (sym c.if-slot.true)
 
 nobody-requires : tie.Need-nobody-requires
 nobody-requires c κs = search rules

@@ -20,7 +20,7 @@ pair-requires c κs =
     (p.0, fine.0, fine.1, p.2, p.3)
 
 returns : tie.Need-returns-then-from
-returns c = c.pair.ensures ∙ ap (pair_if c.before.before.before) (sym c.if-from.true)
+returns c = c.pair.ensures ∙ ap (pair_if c.before.before.before.before.before) (sym c.if-from.true)
 
 returns-2 : tie.Need-returns
 returns-2 c = ap (pair_if c.before.before) (sym c.if-from.false)

@@ -52,16 +52,16 @@ among start = pair_of (walls_of start.args.walls.now)
 
 returns : tie.Need-returns-in-Barred
 returns c =
-    let t = c.before.before.before in
+    let t = c.before in
     let start = t.before.before.before.before in
-    barred (among start) (source_of start.args.goes) (source_of start.args.comes) start.args.x _ (sym t.heard_at.ensures ∙ c.bar-1.given.1)
+    barred (among start) (source_of start.args.goes) (source_of start.args.comes) start.args.x _ (sym t.heard_at.ensures ∙ c.in-Barred.is)
 
 returns-2 : tie.Need-returns-in-Heard
 returns-2 c =
-    let t = c.before.before.before.before.before in
+    let t = c.before.before.before in
     let start = t.before.before.before.before in
     c.exchanged.ensures
-    ∙ heard (among start) (source_of start.args.goes) (source_of start.args.comes) start.args.x _ (sym t.heard_at.ensures ∙ c.more-1.given.1) _ c.heard_at-p.ensures
+    ∙ heard (among start) (source_of start.args.goes) (source_of start.args.comes) start.args.x _ (sym t.heard_at.ensures ∙ c.in-Heard.is) _ c.heard_at-p.ensures
 
 pub meet_spec : {M : Type 1} → statement M
 meet_spec =

@@ -1,11 +1,11 @@
 -- `settle` writes a used seat; the bytes of an unused one stay. Assumes nothing.
 -- a store with the receivers of one seat or the other
+use borrow.Author.Tests.{not-true, not-false}
 use mathlib.Core.Path.{sym, ap, ◌∙◌}
 use Prim.Native.Nat.{ℕ, ◌-◌}
 use mathlib.Core.List.{List}
 use mathlib.Core.Option.{some}
 use mathlib.Core.Bool.{Bool, true, false, cond}
-use borrow.Author.Tests.{not-true, not-false}
 use lib.ListN.{set}
 use Rattle.store.specs.declared.Held.{Held}
 use Rattle.store.specs.Store.{book, book_of, book_bytes}
@@ -23,11 +23,11 @@ pub returns-then-not-seat : goal.returns-then-not-seat
 unfolding either
 returns-then-not-seat c =
     sym (bytes_book c.args.store.now (λ i. (c.slice_known-1.given i).fits) c.requires.0)
-    ∙ ap (either c.args.store.now c.args.j c.args.seat.held) (sym (not-true c.args.seat.used c.if-not-seat.true))
+    ∙ ap (either c.args.store.now c.args.j c.args.seat.held) (sym (not-true _ c.if-not-seat.true))
 
 pub returns : goal.returns
 unfolding either
 returns c =
     c.put_held.ensures
     ∙ set_held c.args.store.now c.args.j (some c.args.seat.held) (λ i. (c.slice_known-1.given i).fits) c.requires.0 c.requires.1
-    ∙ ap (either c.args.store.now c.args.j c.args.seat.held) (sym (not-false c.args.seat.used c.if-not-seat.false))
+    ∙ ap (either c.args.store.now c.args.j c.args.seat.held) (sym (not-false _ c.if-not-seat.false))

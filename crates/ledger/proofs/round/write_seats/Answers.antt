@@ -31,10 +31,10 @@ loop-k-smaller c = omega arith
 pub loop-k-preserved : goal.loop-k-preserved
 loop-k-preserved c =
     let l = (book_of c.args.store.now).receivers in
-    let now = seat_holds c.loop-k.store _ (book (book_of c.args.store.now).sources (seated (take c.loop-k.k c.args.t2) l) (book_of c.args.store.now).walls) c.loop-k.k (get_or c.args.t2 c.loop-k.k vacant) c.loop-k.invariant.1 (c.requires.1.stand c.loop-k.k) c.settle.ensures in
-    let next : seated (take (c.loop-k.k + 1) c.args.t2) l ≡ _ =
-    ap (λ (n : ℕ). seated (take n c.args.t2) l) (add-one c.loop-k.k)
-    ∙ seated_next c.args.t2 l c.loop-k.k (omega (arith, c.requires.1.count, c.loop-k-test.true)) (omega (arith, (sound_book c.args.store.now c.requires.0).seats, c.loop-k-test.true)) in
+    let now = seat_holds c.loop-k.store _ (book (book_of c.args.store.now).sources (seated (take c.loop-k.k c.args.seats) l) (book_of c.args.store.now).walls) c.loop-k.k (get_or c.args.seats c.loop-k.k vacant) c.loop-k.invariant.1 (c.requires.1.stand c.loop-k.k) c.settle.ensures in
+    let next : seated (take (c.loop-k.k + 1) c.args.seats) l ≡ _ =
+    ap (λ (n : ℕ). seated (take n c.args.seats) l) (add-one c.loop-k.k)
+    ∙ seated_next c.args.seats l c.loop-k.k (omega (arith, c.requires.1.count, c.loop-k-test.true)) (omega (arith, (sound_book c.args.store.now c.requires.0).seats, c.loop-k-test.true)) in
     (omega arith, rw next now)
 
 pub shape_of-store : goal.shape_of-store
@@ -45,5 +45,5 @@ pub returns : goal.returns
 returns c = (
   c.loop-k.invariant.1.whole,
   c.loop-k.invariant.1.is
-      ∙ ap (λ (m : List Seat). book (book_of c.args.store.now).sources (seated m (book_of c.args.store.now).receivers) (book_of c.args.store.now).walls) (take_all c.loop-k.k c.args.t2 (omega (arith, c.requires.1.count, c.loop-k-test.false))),
+      ∙ ap (λ (m : List Seat). book (book_of c.args.store.now).sources (seated m (book_of c.args.store.now).receivers) (book_of c.args.store.now).walls) (take_all c.loop-k.k c.args.seats (omega (arith, c.requires.1.count, c.loop-k-test.false))),
 )

@@ -45,8 +45,8 @@ loop-again c =
     let a = start.args in (
       omega arith,
       simp length-set l.loop.invariant.1,
-      ap (λ (b : ℕ). over a.at (columns a.lead (l.loop.left - 1) (l.loop.rest / 2)) (set l.loop.out (a.at + (l.loop.left - 1)) b)) c.column.ensures
-          ∙ column_put a.lead l.loop.out _ a.at l.loop.left l.loop.rest (omega arith) (omega (arith, l.loop.invariant.1, start.requires)) l.loop.invariant.2,
+      ap (λ (b : ℕ). over a.at (columns a.lead (l.loop.false - 1) (l.loop.rest / 2)) (set l.loop.out (a.at + (l.loop.false - 1)) b)) c.column.ensures
+          ∙ column_put a.lead l.loop.out _ a.at l.loop.false l.loop.rest (omega arith) (omega (arith, l.loop.invariant.1, start.requires)) l.loop.invariant.2,
     )
 
 add-result : tie.Need-overflow-add-result invariant-loop decreases-loop
@@ -61,7 +61,7 @@ returns c =
     let l = c.before in
     let a = l.before.before.args in
     ap₂ (λ (k : ℕ) (o : List ℕ). (a.at + k, o)) (sym (length_columns a.lead a.w a.v))
-    (columns_done a.lead l.loop.out _ a.at l.loop.left l.loop.rest (omega arith) l.loop.invariant.2)
+    (columns_done a.lead l.loop.out _ a.at l.loop.false l.loop.rest (omega arith) l.loop.invariant.2)
 
 pub put_columns_spec : {M : Type 1} → statement M
 put_columns_spec =

@@ -2,17 +2,16 @@
 use mathlib.Core.Path.{sym, ap, ◌∙◌}
 use mathlib.Core.Bool.{true, false, not}
 use Rattle.screen.specs.Plan.{opposite, beside}
-use Rattle.screen.proofs.Bounds.{not-true, not-false}
 use Rattle.screen.proofs.Lines.{counts_not, counts_by_lem}
 use Rattle.screen.proofs.plan.crosses.Goals as goal
 
 pub returns-then-not-opposite : goal.returns-then-not-opposite
 returns-then-not-opposite c =
     let parts = c.opposite.ensures ∙ (λ i. opposite (c.turn.ensures i) (c.turn-2.ensures i)) in
-    sym (counts_not c.args.p c.args.r c.args.w (sym parts ∙ not-true _ c.if-not-opposite.true))
+    sym (counts_not c.args.p c.args.r c.args.w (sym parts ∙ c.if-not-opposite.true))
 
 pub returns : goal.returns
 returns c =
     let parts = c.opposite.ensures ∙ (λ i. opposite (c.turn.ensures i) (c.turn-2.ensures i)) in
     let miss = c.beside.ensures ∙ (λ i. beside (c.turn-3.ensures i) (c.turn-4.ensures i)) in
-    ap not miss ∙ sym (counts_by_lem c.args.p c.args.r c.args.w (sym parts ∙ not-false _ c.if-not-opposite.false))
+    ap not miss ∙ sym (counts_by_lem c.args.p c.args.r c.args.w (sym parts ∙ c.if-not-opposite.false))

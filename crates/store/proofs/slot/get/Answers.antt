@@ -10,7 +10,7 @@ use Rattle.store.proofs.slot.get.Goals as goal
 
 pub take_fields-requires : goal.take_fields-requires
 take_fields-requires c =
-    (c.requires.0, (omega arith, c.requires.2, λ e. let k = c.requires.3 e in omega (arith, k)))
+    record { ws_value = c.requires.0; ws_in_bounds = (omega arith, c.requires.2, λ e. let k = c.requires.3 e in omega (arith, k)) }
 
 pub returns : goal.returns
 returns c =

@@ -29,14 +29,14 @@ returns-then-v-ne1 c = ap not c.blank.ensures ∙ sym (torn_unmarked source_part
 
 pub returns-then-not-is_course : goal.returns-then-not-is_course
 returns-then-not-is_course c =
-    judged _ false _ c.if-v-ne1.false (sym c.is_course.ensures ∙ not-true _ c.if-not-is_course.true) refl
+    judged _ false _ c.if-v-ne1.false (sym c.is_course.ensures ∙ c.if-not-is_course.true) refl
 
 pub returns-in-Allowed : goal.returns-in-Allowed
 returns-in-Allowed c =
-    judged _ true _ c.if-v-ne1.false (sym c.is_course.ensures ∙ not-false _ c.if-not-is_course.false)
+    judged _ true _ c.if-v-ne1.false (sym c.is_course.ensures ∙ c.if-not-is_course.false)
     (sym (c.judge_source.ensures ∙ ap source_verdict c.source_from.ensures) ∙ c.in-Allowed.is)
 
 pub returns-in-Refused : goal.returns-in-Refused
 returns-in-Refused c =
-    judged _ true _ c.if-v-ne1.false (sym c.is_course.ensures ∙ not-false _ c.if-not-is_course.false)
+    judged _ true _ c.if-v-ne1.false (sym c.is_course.ensures ∙ c.if-not-is_course.false)
     (sym (c.judge_source.ensures ∙ ap source_verdict c.source_from.ensures) ∙ c.in-Refused.is)
