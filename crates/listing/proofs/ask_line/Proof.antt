@@ -22,7 +22,7 @@ abbrev start₁ : tie.After-put_decimal-at → tie.Start
 start₁ c = c.before.before.before.before
 
 abbrev start₂ : tie.After-put_mark-at → tie.Start
-start₂ c = start₁ c.before.before.before.before.before
+start₂ c = start₁ c.before.before.before.before.before.before
 
 abbrev start₃ : tie.After-put_level-at → tie.Start
 start₃ c = start₂ c.before.before.before.before
@@ -35,21 +35,21 @@ abbrev front : ℕ → ℕ → List ℕ
 front n slot = decimal n ++ (32 ∷ 82 ∷ two_digits slot)
 
 begun : (c : tie.After-put_decimal-at) → let a = (start₁ c).args in
-    Part 0 64 20 (decimal a.n) a.out.now c.put_decimal-at.result c.put_decimal-at.new.0
+    Part 0 64 20 (decimal a.n) a.out.now c.put_decimal-at.result c.put_decimal-at.new.out
 begun c = counted (start₁ c).ranges.n.fits c.if-out-lt-LINE_ROOM.false c.put_decimal-at.ensures
 
 marked : (c : tie.After-put_mark-at) → let a = (start₂ c).args in
-    Part 0 64 24 (front a.n a.slot) a.out.now c.put_mark-at.result c.put_mark-at.new.0
+    Part 0 64 24 (front a.n a.slot) a.out.now c.put_mark-at.result c.put_mark-at.new.out
 marked c = next (begun c.before.before.before.before.before) 4 (omega arith) (32 ∷ 82 ∷ two_digits (start₂ c).args.slot) _ _ (omega arith) c.put_mark-at.ensures
 
 day : (c : tie.After-put_level-at) → let a = (start₃ c).args in
-    Part 0 64 36 (front a.n a.slot ++ (32 ∷ level_text a.den)) a.out.now c.put_level-at.result c.put_level-at.new.0
+    Part 0 64 36 (front a.n a.slot ++ (32 ∷ level_text a.den)) a.out.now c.put_level-at.result c.put_level-at.new.out
 day c =
     let w = c.put_level-at.ensures in
     next (marked c.before.before.before.before) 12 (omega arith) (32 ∷ level_text (start₃ c).args.den) _ _ (omega (arith, ends _ _ _ _ _ w.0, w.1)) w.0
 
 both : (c : tie.After-put_level-at-2) → let a = (start₄ c).args in
-    Part 0 64 48 (front a.n a.slot ++ (32 ∷ level_text a.den) ++ (32 ∷ level_text a.night)) a.out.now c.put_level-at-2.result c.put_level-at-2.new.0
+    Part 0 64 48 (front a.n a.slot ++ (32 ∷ level_text a.den) ++ (32 ∷ level_text a.night)) a.out.now c.put_level-at-2.result c.put_level-at-2.new.out
 both c =
     let w = c.put_level-at-2.ensures in
     next (day c.before.before.before.before) 12 (omega arith) (32 ∷ level_text (start₄ c).args.night) _ _ (omega (arith, ends _ _ _ _ _ w.0, w.1)) w.0

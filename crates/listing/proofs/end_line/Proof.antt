@@ -19,17 +19,17 @@ put-text-requires c κs = search rules
 
 -- the start, from after END and the count
 abbrev start₁ : tie.After-put_text-at → tie.Start
-start₁ c = c.before.before.before.before.before
+start₁ c = c.before.before.before.before.before.before
 
 abbrev start₂ : tie.After-put_decimal-at → tie.Start
 start₂ c = start₁ c.before.before.before.before
 
 -- the line so far
-begun : (c : tie.After-put_text-at) → Part 0 64 4 (69 ∷ 78 ∷ 68 ∷ 32 ∷ []) (start₁ c).args.out.now c.put_text-at.result c.put_text-at.new.0
+begun : (c : tie.After-put_text-at) → Part 0 64 4 (69 ∷ 78 ∷ 68 ∷ 32 ∷ []) (start₁ c).args.out.now c.put_text-at.result c.put_text-at.new.out
 begun c = record { space = c.if-out-lt-LINE_ROOM.false; wrote = c.put_text-at.ensures; most = omega arith }
 
 counted : (c : tie.After-put_decimal-at) → let a = (start₂ c).args in
-    Part 0 64 24 ((69 ∷ 78 ∷ 68 ∷ 32 ∷ []) ++ decimal a.n) a.out.now c.put_decimal-at.result c.put_decimal-at.new.0
+    Part 0 64 24 ((69 ∷ 78 ∷ 68 ∷ 32 ∷ []) ++ decimal a.n) a.out.now c.put_decimal-at.result c.put_decimal-at.new.out
 counted c =
     let n = (start₂ c).args.n in
     next (begun c.before.before.before.before) 20 (omega arith) (decimal n) _ _ (length_count n (start₂ c).ranges.n.fits) c.put_decimal-at.ensures

@@ -18,7 +18,7 @@ start c = c.before.before.before.before
 
 -- the mark stands
 marked : (c : tie.After-put_text-at) → let a = (start c).args in
-    Part a.at (length a.mark.now + 2) (length a.mark.now) a.mark.now a.out.now c.put_text-at.result c.put_text-at.new.0
+    Part a.at (length a.mark.now + 2) (length a.mark.now) a.mark.now a.out.now c.put_text-at.result c.put_text-at.new.out
 marked c = record { space = (start c).requires; wrote = c.put_text-at.ensures; most = omega arith }
 
 put-digits-requires : tie.Need-put_digits-requires

@@ -17,7 +17,7 @@ put-text-requires c κs = search rules
 
 -- the start, from after the space, the whole part and the point
 abbrev start₁ : tie.After-put_text-at → tie.Start
-start₁ c = c.before.before.before.before
+start₁ c = c.before.before.before.before.before
 
 abbrev start₂ : tie.After-put_decimal-at → tie.Start
 start₂ c = start₁ c.before.before.before.before
@@ -26,17 +26,17 @@ abbrev start₃ : tie.After-put_text-at-2 → tie.Start
 start₃ c = start₂ c.before.before.before.before.before
 
 -- the text so far
-spaced : (c : tie.After-put_text-at) → let a = (start₁ c).args in Part a.at 21 1 (32 ∷ []) a.out.now c.put_text-at.result c.put_text-at.new.0
+spaced : (c : tie.After-put_text-at) → let a = (start₁ c).args in Part a.at 21 1 (32 ∷ []) a.out.now c.put_text-at.result c.put_text-at.new.out
 spaced c = record { space = (start₁ c).requires; wrote = c.put_text-at.ensures; most = omega arith }
 
 whole : (c : tie.After-put_decimal-at) → let a = (start₂ c).args in
-    Part a.at 21 10 (32 ∷ decimal (a.tenths / 10)) a.out.now c.put_decimal-at.result c.put_decimal-at.new.0
+    Part a.at 21 10 (32 ∷ decimal (a.tenths / 10)) a.out.now c.put_decimal-at.result c.put_decimal-at.new.out
 whole c =
     let t = (start₂ c).args.tenths in
     next (spaced c.before.before.before.before) 9 (omega arith) (decimal (t / 10)) _ _ (length_whole t (start₂ c).ranges.tenths.fits) c.put_decimal-at.ensures
 
 pointed : (c : tie.After-put_text-at-2) → let a = (start₃ c).args in
-    Part a.at 21 11 (32 ∷ (decimal (a.tenths / 10) ++ (46 ∷ []))) a.out.now c.put_text-at-2.result c.put_text-at-2.new.0
+    Part a.at 21 11 (32 ∷ (decimal (a.tenths / 10) ++ (46 ∷ []))) a.out.now c.put_text-at-2.result c.put_text-at-2.new.out
 pointed c = next (whole c.before.before.before.before.before) 1 (omega arith) (46 ∷ []) _ _ (omega arith) c.put_text-at-2.ensures
 
 put-decimal-requires : tie.Need-put_decimal-at-requires

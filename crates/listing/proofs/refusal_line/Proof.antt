@@ -25,21 +25,21 @@ abbrev start₁ : tie.After-put_decimal-at → tie.Start
 start₁ c = c.before.before.before.before
 
 abbrev start₂ : tie.After-put_mark-at → tie.Start
-start₂ c = start₁ c.before.before.before.before.before.before
+start₂ c = start₁ c.before.before.before.before.before.before.before
 
 -- the line so far
 begun : (c : tie.After-put_decimal-at) → let a = (start₁ c).args in
-    Part 0 64 20 (decimal a.n) a.out.now c.put_decimal-at.result c.put_decimal-at.new.0
+    Part 0 64 20 (decimal a.n) a.out.now c.put_decimal-at.result c.put_decimal-at.new.out
 begun c = counted (start₁ c).ranges.n.fits c.if-out-lt-LINE_ROOM.false c.put_decimal-at.ensures
 
 marked : (c : tie.After-put_mark-at) → let a = (start₂ c).args in
-    Part 0 64 24 (decimal a.n ++ (32 ∷ 69 ∷ two_digits (number_of a.why))) a.out.now c.put_mark-at.result c.put_mark-at.new.0
+    Part 0 64 24 (decimal a.n ++ (32 ∷ 69 ∷ two_digits (number_of a.why))) a.out.now c.put_mark-at.result c.put_mark-at.new.out
 marked c =
     let d = c.before.before.before.before.before.before in
     let text : ℕ → List ℕ = λ x. 32 ∷ 69 ∷ two_digits x in
-    let told : Wrote d.put_decimal-at.result (text c.number.result) d.put_decimal-at.new.0 c.put_mark-at.result c.put_mark-at.new.0 = c.put_mark-at.ensures in
+    let told : Wrote d.put_decimal-at.result (text c.number.result) d.put_decimal-at.new.out c.put_mark-at.result c.put_mark-at.new.out = c.put_mark-at.ensures in
     next (begun d) 4 (omega arith) (text (number_of (start₂ c).args.why)) _ _ (omega arith)
-    (told ∙ ap (λ (x : ℕ). written d.put_decimal-at.result (text x) d.put_decimal-at.new.0) c.number.ensures)
+    (told ∙ ap (λ (x : ℕ). written d.put_decimal-at.result (text x) d.put_decimal-at.new.out) c.number.ensures)
 
 number-requires : tie.Need-number-requires
 number-requires c κs = search rules
