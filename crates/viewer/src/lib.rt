@@ -86,7 +86,8 @@ fn trial(store: &[u8], record: &[u8]) -> Outcome
 pub fn ngoretaiwhe_apply(store: &mut [u8], record: &[u8]) -> u32
     ensures { (result, store.new) ≡ applied «record».now store.old }
 {
-    if codec::extent(record) < record.len() {
+    let follows = codec::extent(record) < record.len();
+    if follows {
         let outcome = trial(store, record);
         return of_outcome(outcome, true);
     }

@@ -5,12 +5,12 @@ use lib.ListN.{length}
 use Rattle.viewer.proofs.Laws.{of_one, of_more}
 use Rattle.viewer.proofs.ngoretaiwhe_apply.Goals as goal
 
-pub returns-then-extent-record : goal.returns-then-extent-record
-returns-then-extent-record c =
+pub returns-then-follows : goal.returns-then-follows
+returns-then-follows c =
     of_more c.args.«record».now c.args.store.now _ _
-    (subst (λ (n : ℕ). n < length c.args.«record».now) c.extent.ensures c.if-extent-record.true) c.trial-outcome.ensures c.of_outcome.ensures
+    (subst (λ (n : ℕ). n < length c.args.«record».now) c.extent.ensures c.if-follows.true) c.trial-outcome.ensures c.of_outcome.ensures
 
 pub returns : goal.returns
 returns c =
     of_one c.args.«record».now c.args.store.now _ _ _
-    (subst (λ (n : ℕ). length c.args.«record».now ≤ n) c.extent.ensures c.if-extent-record.false) c.apply-deed.ensures c.of_outcome-2.ensures
+    (subst (λ (n : ℕ). length c.args.«record».now ≤ n) c.extent.ensures c.if-follows.false) c.apply-deed.ensures c.of_outcome-2.ensures
