@@ -40,7 +40,7 @@ begun c = counted (start₁ c).ranges.n.fits c.if-out-lt-LINE_ROOM.false c.put_d
 
 marked : (c : tie.After-put_mark-at) → let a = (start₂ c).args in
     Part 0 64 24 (front a.n a.slot) a.out.now c.put_mark-at.result c.put_mark-at.new.out
-marked c = next (begun c.before.before.before.before.before) 4 (omega arith) (32 ∷ 82 ∷ two_digits (start₂ c).args.slot) _ _ (omega arith) c.put_mark-at.ensures
+marked c = next (begun c.before.before.before.before.before.before) 4 (omega arith) (32 ∷ 82 ∷ two_digits (start₂ c).args.slot) _ _ (omega arith) c.put_mark-at.ensures
 
 day : (c : tie.After-put_level-at) → let a = (start₃ c).args in
     Part 0 64 36 (front a.n a.slot ++ (32 ∷ level_text a.den)) a.out.now c.put_level-at.result c.put_level-at.new.out
@@ -55,7 +55,7 @@ both c =
     next (day c.before.before.before.before) 12 (omega arith) (32 ∷ level_text (start₄ c).args.night) _ _ (omega (arith, ends _ _ _ _ _ w.0, w.1)) w.0
 
 put-mark-requires : tie.Need-put_mark-at-requires
-put-mark-requires c κs = room (begun c.before.before.before.before) 4 (omega arith)
+put-mark-requires c κs = room (begun c.before.before.before.before.before) 4 (omega arith)
 
 put-level-requires : tie.Need-put_level-at-requires
 put-level-requires c κs = room (marked c.before.before.before) 21 (omega arith)
@@ -64,7 +64,7 @@ put-level-requires-2 : tie.Need-put_level-at-requires-2
 put-level-requires-2 c κs = room (day c.before.before.before) 21 (omega arith)
 
 put-text-requires : tie.Need-put_text-requires
-put-text-requires c κs = room (both c.before.before.before.before) 1 (omega arith)
+put-text-requires c κs = room (both c.before.before.before.before.before) 1 (omega arith)
 
 same_length : tie.Need-shape_of-out
 same_length c = search rules
@@ -73,7 +73,7 @@ returns-2 : tie.Need-returns
 unfolding ask_line
 returns-2 c =
     let m = c.before.before.before.before.before.before.before in
-    whole_line (next (both m) 1 (omega arith) (10 ∷ []) _ _ (omega arith) c.put_text.ensures)
+    whole_line (next (both m.before) 1 (omega arith) (10 ∷ []) _ _ (omega arith) c.put_text.ensures)
 
 pub ask_line_spec : {M : Type 1} → statement M
 ask_line_spec =

@@ -38,7 +38,7 @@ put-decimal-requires : tie.Need-put_decimal-at-requires
 put-decimal-requires c κs = room (begun c.before.before.before) 20 (omega arith)
 
 put-text-requires-2 : tie.Need-put_text-requires
-put-text-requires-2 c κs = room (counted c.before.before.before.before) 1 (omega arith)
+put-text-requires-2 c κs = room (counted c.before.before.before.before.before) 1 (omega arith)
 
 same_length : tie.Need-shape_of-out
 same_length c = search rules
@@ -47,7 +47,7 @@ returns-2 : tie.Need-returns
 unfolding end_line
 returns-2 c =
     let m = c.before.before.before.before.before.before.before in
-    whole_line (next (counted m) 1 (omega arith) (10 ∷ []) _ _ (omega arith) c.put_text.ensures)
+    whole_line (next (counted m.before) 1 (omega arith) (10 ∷ []) _ _ (omega arith) c.put_text.ensures)
 
 pub end_line_spec : {M : Type 1} → statement M
 end_line_spec =

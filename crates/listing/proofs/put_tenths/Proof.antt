@@ -23,7 +23,7 @@ abbrev start₂ : tie.After-put_decimal-at → tie.Start
 start₂ c = start₁ c.before.before.before.before
 
 abbrev start₃ : tie.After-put_text-at-2 → tie.Start
-start₃ c = start₂ c.before.before.before.before.before
+start₃ c = start₂ c.before.before.before.before.before.before
 
 -- the text so far
 spaced : (c : tie.After-put_text-at) → let a = (start₁ c).args in Part a.at 21 1 (32 ∷ []) a.out.now c.put_text-at.result c.put_text-at.new.out
@@ -37,13 +37,13 @@ whole c =
 
 pointed : (c : tie.After-put_text-at-2) → let a = (start₃ c).args in
     Part a.at 21 11 (32 ∷ (decimal (a.tenths / 10) ++ (46 ∷ []))) a.out.now c.put_text-at-2.result c.put_text-at-2.new.out
-pointed c = next (whole c.before.before.before.before.before) 1 (omega arith) (46 ∷ []) _ _ (omega arith) c.put_text-at-2.ensures
+pointed c = next (whole c.before.before.before.before.before.before) 1 (omega arith) (46 ∷ []) _ _ (omega arith) c.put_text-at-2.ensures
 
 put-decimal-requires : tie.Need-put_decimal-at-requires
 put-decimal-requires c κs = room (spaced c.before.before.before) 20 (omega arith)
 
 put-text-requires-2 : tie.Need-put_text-at-requires-2
-put-text-requires-2 c κs = room (whole c.before.before.before.before) 1 (omega arith)
+put-text-requires-2 c κs = room (whole c.before.before.before.before.before) 1 (omega arith)
 
 put-digits-requires : tie.Need-put_digits-requires
 put-digits-requires c κs = room (pointed c.before.before.before) 1 (omega arith)

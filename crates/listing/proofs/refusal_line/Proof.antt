@@ -38,7 +38,7 @@ marked c =
     let d = c.before.before.before.before.before.before in
     let text : ℕ → List ℕ = λ x. 32 ∷ 69 ∷ two_digits x in
     let told : Wrote d.put_decimal-at.result (text c.number.result) d.put_decimal-at.new.out c.put_mark-at.result c.put_mark-at.new.out = c.put_mark-at.ensures in
-    next (begun d) 4 (omega arith) (text (number_of (start₂ c).args.why)) _ _ (omega arith)
+    next (begun d.before) 4 (omega arith) (text (number_of (start₂ c).args.why)) _ _ (omega arith)
     (told ∙ ap (λ (x : ℕ). written d.put_decimal-at.result (text x) d.put_decimal-at.new.out) c.number.ensures)
 
 number-requires : tie.Need-number-requires
@@ -48,10 +48,10 @@ cast-put-mark : tie.Need-overflow_cast-number
 cast-put-mark c = search rules
 
 put-mark-requires : tie.Need-put_mark-at-requires
-put-mark-requires c κs = room (begun c.before.before.before.before.before) 4 (omega arith)
+put-mark-requires c κs = room (begun c.before.before.before.before.before.before) 4 (omega arith)
 
 put-text-requires : tie.Need-put_text-requires
-put-text-requires c κs = room (marked c.before.before.before.before) 1 (omega arith)
+put-text-requires c κs = room (marked c.before.before.before.before.before) 1 (omega arith)
 
 same_length : tie.Need-shape_of-out
 same_length c = search rules
@@ -60,7 +60,7 @@ returns-2 : tie.Need-returns
 unfolding refusal_line
 returns-2 c =
     let m = c.before.before.before.before.before.before.before in
-    whole_line (next (marked m) 1 (omega arith) (10 ∷ []) _ _ (omega arith) c.put_text.ensures)
+    whole_line (next (marked m.before) 1 (omega arith) (10 ∷ []) _ _ (omega arith) c.put_text.ensures)
 
 pub refusal_line_spec : {M : Type 1} → statement M
 refusal_line_spec =

@@ -35,12 +35,12 @@ enter-entry-requires c =
 
 pub shape_of-store-then-entry-eq0 : goal.shape_of-store-then-entry-eq0
 shape_of-store-then-entry-eq0 c =
-    c.enter-entry.auto.1.0
+    c.enter-entry.auto.store
     ∙ c.loop-count.invariant.1
 
 pub shape_of-out-then-entry-eq0 : goal.shape_of-out-then-entry-eq0
 shape_of-out-then-entry-eq0 c =
-    c.enter-entry.auto.1.1.1.1.1.0
+    c.enter-entry.auto.out
     ∙ c.loop-count.invariant.0.size
 
 pub returns-then-entry-eq0 : goal.returns-then-entry-eq0
@@ -49,7 +49,7 @@ returns-then-entry-eq0 c =
     sym c.ready.ensures
     ∙ c.loop-count-test.true in (
       going_stopped c.args.over c.args.x.count c.args.held.now c.args.store.now c.args.out.now c.loop-count.store c.loop-count.out c.loop-count.used c.loop-count.wrote c.loop-count.count c.loop-count.invariant.0
-          c.enter-entry.result _ _ c.enter-entry.ensures c.enter-entry.auto.1.1.1.1.1.0 w c.args.x refl c.if-x.false c.if-entry-eq0.true,
+          c.enter-entry.result _ _ c.enter-entry.ensures c.enter-entry.auto.out w c.args.x refl c.if-x.false c.if-entry-eq0.true,
       c.enter-entry.ensures.left_sound,
     )
 
@@ -67,8 +67,8 @@ loop-count-preserved c =
     sym c.ready.ensures
     ∙ c.loop-count-test.true in (
       going_on c.args.over c.args.x.count c.args.held.now c.args.store.now c.args.out.now c.loop-count.store c.loop-count.out c.loop-count.used c.loop-count.wrote c.loop-count.count c.loop-count.invariant.0
-          c.enter-entry.result _ _ c.enter-entry.ensures c.enter-entry.auto.1.1.1.1.1.0 w c.if-entry-eq0.false,
-      c.enter-entry.auto.1.0 ∙ c.loop-count.invariant.1,
+          c.enter-entry.result _ _ c.enter-entry.ensures c.enter-entry.auto.out w c.if-entry-eq0.false,
+      c.enter-entry.auto.store ∙ c.loop-count.invariant.1,
     )
 
 pub shape_of-store : goal.shape_of-store

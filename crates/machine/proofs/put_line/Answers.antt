@@ -6,8 +6,8 @@ use Rattle.machine.proofs.put_line.Goals as goal
 
 pub overflow_add-result : goal.overflow_add-result
 overflow_add-result c =
-    record { fits = omega (arith, (line_put (line_of c.args.n c.args.outcome) c.args.out.now c.args.at c.requires c.line-wrote.result c.line-wrote.new.1.1.0 c.line-wrote.ensures c.line-wrote.auto.1.1.0).within) }
+    record { fits = omega (arith, (line_put (line_of c.args.n c.args.outcome) c.args.out.now c.args.at c.requires c.line-wrote.result c.line-wrote.new.out c.line-wrote.ensures c.line-wrote.auto.out).within) }
 
 pub returns : goal.returns
 returns c =
-    line_put (line_of c.args.n c.args.outcome) c.args.out.now c.args.at c.requires c.line-wrote.result c.line-wrote.new.1.1.0 c.line-wrote.ensures c.line-wrote.auto.1.1.0
+    line_put (line_of c.args.n c.args.outcome) c.args.out.now c.args.at c.requires c.line-wrote.result c.line-wrote.new.out c.line-wrote.ensures c.line-wrote.auto.out
