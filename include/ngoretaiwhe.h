@@ -1,6 +1,6 @@
 /*
  * The road-noise book for programs in C and C++: clear a store, apply one record to it, ask a receiver.
- * `rt staticlib viewer` proves the three functions and builds them into libviewer.a, for x86-64.
+ * `tests/built viewer_c` proves the three functions and builds them into libviewer.a, for x86-64.
  *
  * A call comes back for every input, with 0 or with one refusal, and a refusal changes no byte of what was lent. Nothing has to be
  * checked first: bytes that are no book are refused as damaged. What can be seen is in docs/STORE.md; bytes that something else wrote

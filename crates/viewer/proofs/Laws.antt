@@ -1,18 +1,16 @@
--- What comes of a call, told as one result; that a refusal leaves what was there; and bytes that are copied or written one by one.
+-- What comes of a call, told as one result; that a refusal leaves what was there; and bytes that are written one by one.
 -- Assumes nothing.
 use Prim.Native.Nat.{ℕ, ◌/◌, ◌%◌, ◌≤◌, ◌<◌, min}
 use mathlib.Core.Path.{◌≡◌, refl, sym, ap, ap₂, ◌∙◌}
 use mathlib.Core.Logic.{◌≢◌}
-use mathlib.Core.Bool.{Bool, true, false, not, cond, ◌||◌}
+use mathlib.Core.Bool.{Bool, true, false, cond}
 use mathlib.Core.Option.{Option, none, some}
-use mathlib.Core.List.{List, [], ◌∷◌, ◌++◌, append-nil}
+use mathlib.Core.List.{List, [], ◌∷◌}
 use native.Mathlib.Omega.{arith}
 use native.Mathlib.Decide.{dec_lt}
 use borrow.Author.Tests.{ne_eqb, eq-eqb, lt-ltb, le-ltb, lt-leb, leb-true}
-use lib.Dec.{eqb, leb, ltb}
-use lib.ListN.{length, get_or, take, drop, set, drop_of_length-le}
+use lib.ListN.{length, get_or, set}
 use Rattle.layout.proofs.Bounds.{both}
-use lib.Seq.{take_all}
 use Rattle.answer.specs.declared.Refusal.{Refusal}
 use Rattle.answer.specs.declared.Refusal.TheVariants.{Damaged, Field}
 use Rattle.road.specs.declared.Source.{Source}
@@ -36,7 +34,7 @@ use Rattle.history.proofs.Theorems.{of_this_book}
 use Rattle.service.specs.declared.Deed.{Deed}
 use Rattle.service.specs.declared.Outcome.{Outcome}
 use Rattle.service.specs.Service.{call_of, slot_told, outcome_of, outcome_refusal, answer_told, done_to}
-use Rattle.viewer.specs.Viewer.{result_of, lastly, unless_refused, cleared, goes_on, applied, word, indices_in, tell_in, answered, asked}
+use Rattle.viewer.specs.Viewer.{result_of, lastly, unless_refused, cleared, applied, word, indices_in, tell_in, answered, asked}
 
 -- ---- a refusal leaves what was there
 
@@ -198,10 +196,6 @@ ask_tells i s = go (damaged s) refl
     go false e = told_tells s (ask_receiver i (book_of s)) (step_tells i (book_of s) (sound_book s e))
 
 -- ---- bytes
-
-pub copied : (s t : List ℕ) (n : ℕ) → length s ≡ n → length t ≡ n → take (length s) s ++ drop (length s) t ≡ s
-copied s t n e f =
-    ap₂ ◌++◌ (take_all (length s) s (omega arith)) (drop_of_length-le t {i = length s} (omega arith)) ∙ append-nil s
 
 four : (s : List ℕ) (a b c d : ℕ) → length s ≡ 4 → set (set (set (set s 0 a) 1 b) 2 c) 3 d ≡ a ∷ b ∷ c ∷ d ∷ []
 four (p ∷ q ∷ r ∷ s ∷ []) a b c d e = refl

@@ -1,8 +1,8 @@
 -- A caller reads back what was told: number and place, since no place reaches 1024, and the two indices, since none reaches 65535.
 -- Assumes nothing.
-use Prim.Native.Nat.{ℕ, ◌+◌, ◌*◌, ◌/◌, ◌%◌, ◌<◌}
+use Prim.Native.Nat.{ℕ, ◌<◌}
 use mathlib.Core.Path.{◌≡◌, refl, sym, ap, subst, ◌∙◌}
-use mathlib.Core.Logic.{◌⊎◌, ⊎_elim}
+use mathlib.Core.Logic.{⊎_elim}
 use mathlib.Core.Bool.{Bool, true, false, not}
 use mathlib.Core.Option.{Option, none, some}
 use mathlib.Core.List.{List}
@@ -20,7 +20,7 @@ use Rattle.history.specs.History.{Clear, Ask}
 use Rattle.history.proofs.Theorems.{of_this_book}
 use Rattle.service.specs.Service.{outcome_refusal, done_to}
 use Rattle.service.proofs.Rows.{rows}
-use Rattle.viewer.specs.Viewer.{result_of, lastly, unless_refused, cleared, goes_on, barred, applied, word, indices_in, unasked, tell_in, answered, asked, word_at, TellsApart, TellsLevels, ReadBack}
+use Rattle.viewer.specs.Viewer.{result_of, lastly, unless_refused, cleared, goes_on, barred, applied, word, indices_in, unasked, tell_in, answered, asked, TellsApart, TellsLevels, ReadBack}
 use Rattle.viewer.proofs.Laws.{ask_tells, Tells, all_told}
 
 -- ---- number and place

@@ -1,4 +1,5 @@
-// The book for programs in C: clear, apply a record and ask, over a store that the caller keeps. include/ngoretaiwhe.h declares them.
+// The book for programs in C: clear, apply a record and ask, over a store that the caller keeps. include/ngoretaiwhe.h declares them, and
+// the crate viewer_c exports them.
 // What each returns and leaves is a definition of specs/Viewer.antt, for any bytes lent; no call requires anything.
 #![tactic(auto)]
 
@@ -61,8 +62,7 @@ fn of_outcome(outcome: Outcome, more: bool) -> u32
 }
 
 // Makes a store of the right length a book with nothing in it.
-#[unsafe(no_mangle)]
-pub extern "C" fn ngoretaiwhe_clear(store: &mut [u8]) -> u32
+pub fn ngoretaiwhe_clear(store: &mut [u8]) -> u32
     ensures { (result, store.new) ≡ cleared store.old }
 {
     let answer = book::clear(store);
@@ -77,17 +77,17 @@ fn trial(store: &[u8], record: &[u8]) -> Outcome
         return Outcome::Refused(Refusal::Damaged);
     }
     let mut copy = [0u8; store::LENGTH];
-    bytes::copy(store, &mut copy);
+    copy.copy_from_slice(store);
     let deed = clerk::apply(&mut copy, record);
     deed.outcome
 }
 
 // Does one record to a store. One that bytes follow is only tried, so that nothing is written.
-#[unsafe(no_mangle)]
-pub extern "C" fn ngoretaiwhe_apply(store: &mut [u8], record: &[u8]) -> u32
+pub fn ngoretaiwhe_apply(store: &mut [u8], record: &[u8]) -> u32
     ensures { (result, store.new) ≡ applied «record».now store.old }
 {
-    if codec::extent(record) < record.len() {
+    let follows = codec::extent(record) < record.len();
+    if follows {
         let outcome = trial(store, record);
         return of_outcome(outcome, true);
     }
@@ -133,8 +133,7 @@ fn write_indices(out: &mut [u8], den: Index, night: Index) -> u32
 }
 
 // Asks a receiver for its two indices.
-#[unsafe(no_mangle)]
-pub extern "C" fn ngoretaiwhe_ask(store: &[u8], slot: usize, out: &mut [u8]) -> u32
+pub fn ngoretaiwhe_ask(store: &[u8], slot: usize, out: &mut [u8]) -> u32
     ensures { (result, out.new) ≡ asked slot store.now out.old }
 {
     match book::ask(store, slot_of(slot)) {
