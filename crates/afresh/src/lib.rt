@@ -211,6 +211,8 @@ fn seats_of(tallies: [Tally; store::RECEIVERS]) -> [Seat; store::RECEIVERS]
 }
 
 // Every account afresh, among walls that are lent as numbers: where it stops, and the seats as they would be.
+// Apart from its caller, so that both need less stack.
+#[inline(never)]
 pub fn go_afresh(steps: &[u32; 1000], walls: &[u64], store: &[u8]) -> Round
     requires { (steps.now ≡ table) × (damaged store.now ≡ false) × Laid walls.now }
     ensures { Rounded (renewing (pair_of (walls_of walls.now)) (present (book_of store.now).sources)) (book_of store.now).receivers result }

@@ -110,6 +110,8 @@ pub fn withdraw_source(steps: &[u32; 1000], store: &mut [u8], slot: u16) -> Answ
 }
 
 // Places a receiver whose fields and slot are allowed: whoever is in the slot goes.
+// Apart, so that a call on a wall has no stack for it.
+#[inline(never)]
 fn enter_receiver(steps: &[u32; 1000], store: &mut [u8], j: usize, r: Receiver) -> Answer
     requires { (steps.now ≡ table) × (damaged store.old ≡ false) × (j < receiver_count) × (receiver_verdict r ≡ Allowed) }
     ensures { (result, store.new) ≡ told store.old (change_receiver j (some r) (book_of store.old)) }

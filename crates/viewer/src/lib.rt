@@ -70,6 +70,8 @@ pub fn ngoretaiwhe_clear(store: &mut [u8]) -> u32
 }
 
 // What would come of a record: it is done to a copy of the store.
+// Apart from its caller, so that a record which is done has no stack for the copy.
+#[inline(never)]
 fn trial(store: &[u8], record: &[u8]) -> Outcome
     ensures { result ≡ (done_to «record».now store.now).0.outcome }
 {
