@@ -7,7 +7,7 @@ use mathlib.Core.List.{List, [], ◌++◌, append-nil}
 use native.Mathlib.Omega.{arith}
 use borrow.Author.Tests.{ltb-true, ltb-false, le-leb, leb-true, leb-false}
 use lib.Dec.{ltb, leb}
-use lib.ListN.{length, take, drop, length-append, length-drop}
+use lib.ListN.{length, drop, length-append, length-drop}
 use lib.Seq.{take-append_seam, drop-drop, drop-append-le}
 use Rattle.layout.specs.Layout.{Bytes}
 use Rattle.request.specs.Kinds.{longest_record}
@@ -18,8 +18,8 @@ use Rattle.service.proofs.Own.{own_longest}
 use Rattle.listing.specs.Listing.{line_room, line_of}
 use Rattle.machine.specs.declared.State.{State}
 use Rattle.machine.specs.declared.Progress.{Progress}
-use Rattle.machine.specs.Job.{Listing, before, ended, list_from}
-use Rattle.machine.specs.Feed.{left, Fed, Feeds, state_of, ready, Feed, rests, waiting, halted, after, feed_from, feed_of, leaves}
+use Rattle.machine.specs.Job.{Listing, before, list_from}
+use Rattle.machine.specs.Feed.{left, Feeds, state_of, ready, Feed, rests, waiting, halted, after, feed_from, feed_of, leaves}
 use Rattle.machine.proofs.Rule.{true_false, before_before, left_on, left_stopped, rule_stop, rule_on}
 use Rattle.machine.proofs.Feeding.{feed_waits, feed_rule, halt_zero, halt_more}
 

@@ -2,7 +2,7 @@
 -- Assumes nothing.
 use Prim.Native.Nat.{ℕ, zero, suc, ◌+◌, ◌-◌, ◌≤◌, ◌<◌}
 use mathlib.Core.Path.{◌≡◌, refl, sym, ap, ap₂, ◌∙◌, subst}
-use mathlib.Core.Bool.{Bool, true, false, cond}
+use mathlib.Core.Bool.{Bool, false, cond}
 use mathlib.Core.List.{List, [], ◌∷◌, ◌++◌, append-nil, append_assoc}
 use native.Mathlib.Nat.{add_comm}
 use native.Mathlib.Numerals.{add-one}
@@ -18,7 +18,6 @@ use Rattle.service.specs.declared.Deed.{Deed}
 use Rattle.service.specs.Service.{done_to}
 use Rattle.service.proofs.Laws.{goes_within}
 use Rattle.listing.specs.Listing.{line_room, put, line_of}
-use Rattle.machine.specs.declared.Entry.{Entry}
 use Rattle.machine.specs.Inner.{TextPut, Entered, part}
 
 -- ---- a line

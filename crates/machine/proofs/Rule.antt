@@ -1,7 +1,7 @@
 -- The rule of the listing without turns: an empty rest, a record that stops the job, a record and the rest behind it.
 -- Assumes nothing.
 use Prim.Native.Nat.{ℕ, zero, suc, ◌+◌, ◌≤◌, ◌<◌}
-use mathlib.Core.Path.{◌≡◌, refl, sym, ap, ◌∙◌}
+use mathlib.Core.Path.{◌≡◌, refl, ap, ◌∙◌}
 use mathlib.Core.Bool.{Bool, true, false, cond}
 use mathlib.Core.List.{List, [], ◌∷◌, ◌++◌, append_assoc}
 use native.Mathlib.Omega.{arith}
@@ -11,7 +11,7 @@ use Rattle.service.specs.Service.{done_to}
 use Rattle.service.proofs.Own.{own}
 use Rattle.listing.specs.Listing.{line_of}
 use Rattle.machine.specs.declared.State.{State}
-use Rattle.machine.specs.Job.{Listing, before, ended, end_or, stop_or, list_in, list_from, ListingRule}
+use Rattle.machine.specs.Job.{Listing, before, ended, stop_or, list_in, list_from, ListingRule}
 use Rattle.machine.specs.Feed.{left}
 
 -- turns enough are enough

@@ -7,7 +7,7 @@ use native.Mathlib.Omega.{arith}
 use lib.Dec.{lit<}
 use lib.ListN.{length, take, drop}
 use lib.Seq.{length-take-le, take-add}
-use Rattle.layout.specs.Layout.{Bytes, size, fields, packed, Within}
+use Rattle.layout.specs.Layout.{Bytes, size, packed, Within}
 use Rattle.layout.proofs.Packing.{within_length, within_at, within_append}
 use Rattle.layout.proofs.Laws.{fields_within}
 use Rattle.course.specs.declared.Piece.{Piece}
@@ -19,7 +19,7 @@ use Rattle.road.specs.Fields.{piece_table, road_table, traffic_table, source_tab
 use Rattle.road.specs.Judge.{source_fields, slot_verdict}
 use Rattle.road.proofs.Rows.{upto, all_of, upto_take, within_upto}
 use Rattle.daily.specs.declared.Daily.{Daily}
-use Rattle.daily.specs.Daily.{busiest, last_class, counts_of, daily_table, daily_bits, daily_of}
+use Rattle.daily.specs.Daily.{busiest, last_class, counts_of, daily_table, daily_bits}
 use Rattle.daily.proofs.Laws.{same_verdict, counts_within}
 use Rattle.request.specs.declared.Counts.TheVariants as counts
 use Rattle.request.specs.declared.Request.{Request}

@@ -1,6 +1,6 @@
 -- A job stops just after refusals 2 and 3: there the next record is 0 bytes on, and the book and the judge of fields give other numbers.
 -- Assumes nothing.
-use Prim.Native.Nat.{ℕ, ◌≤◌, ◌<◌}
+use Prim.Native.Nat.{ℕ, ◌<◌}
 use mathlib.Core.Path.{◌≡◌, refl, sym, ap, subst, ◌∙◌}
 use mathlib.Core.Logic.{◌⊎◌, ◌↔◌, inl, inr, ⊎_elim}
 use mathlib.Core.Bool.{Bool, true, false, ◌||◌}
@@ -22,7 +22,7 @@ use Rattle.request.specs.declared.Told.{Told}
 use Rattle.request.specs.declared.Told.TheVariants as told
 use Rattle.request.specs.declared.Reading.{Reading}
 use Rattle.request.specs.Kinds.{call_in, source_in, verdict_of}
-use Rattle.request.specs.Record.{kind_of, length_of, values_of, cut_short, unknown_kind, leftover_set, judged, heard, read_of, extent_of}
+use Rattle.request.specs.Record.{kind_of, length_of, values_of, cut_short, unknown_kind, leftover_set, judged, read_of, extent_of}
 use Rattle.request.proofs.Laws.{extent_whole, extent_none, uncut, read_cut, read_unknown, read_leftover, read_heard}
 use Rattle.request.proofs.Numbers.{verdict_by}
 use Rattle.calls.specs.declared.Answer.{Answer}

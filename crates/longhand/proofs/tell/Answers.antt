@@ -6,4 +6,4 @@ use Rattle.longhand.proofs.tell.Goals as goal
 
 pub send-requires : goal.send-requires
 send-requires c =
-    sheet_within _ _ _ _ (omega (arith, c.in-Number.known_told-1-own.given)) (omega (arith, c.send-arg-2-1.given)) c.write-n.ensures
+    sheet_within _ _ _ _ (omega arith) (omega arith) c.write-n.ensures

@@ -1,7 +1,7 @@
 -- `feed` goes from record to record; the text so far, in front of what the rest leaves, is what all of them leave. Assumes nothing.
 use Prim.Native.Nat.{◌-◌}
 use native.Mathlib.Omega.{arith}
-use mathlib.Core.Bool.{true, false}
+use mathlib.Core.Bool.{true}
 use mathlib.Core.Path.{◌≡◌, refl, sym, ◌∙◌}
 use lib.ListN.{length, length-drop}
 use Rattle.machine.specs.Feed.{ready}

@@ -1,5 +1,4 @@
 -- `hold` moves a byte a turn; the bytes that are still to move stay where they were. Assumes nothing.
-use Prim.Native.Nat.{◌-◌}
 use native.Mathlib.Omega.{arith}
 use Rattle.machine.proofs.Lines.{moved_begun, moved_on, moved_all}
 use Rattle.machine.proofs.hold.Goals as goal

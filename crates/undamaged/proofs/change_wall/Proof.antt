@@ -1,22 +1,19 @@
 -- `change_wall` works every account out afresh first and writes only if no pair bars the change. Assumes nothing.
-use mathlib.Core.Path.{◌≡◌, refl, sym, ap, ap₂, ◌∙◌, subst}
+use mathlib.Core.Path.{sym, ap, ◌∙◌, subst}
 use mathlib.Core.List.{List}
 use mathlib.Core.Option.{Option, none, some}
-use mathlib.Core.Bool.{Bool, true, cond}
-use Prim.Native.Nat.{ℕ}
-use native.Mathlib.Omega.{arith}
+use mathlib.Core.Bool.{cond}
 use borrow.Author.Rules.{rules}
 use lib.ListN.{set}
 use lib.Seq.{length-take-le}
 use Rattle.screen.specs.declared.Wall.{Wall}
-use Rattle.road.specs.declared.Source.{Source}
 use Rattle.road.specs.Reach.{pair_of}
 use Rattle.store.specs.declared.Held.{Held}
 use Rattle.store.specs.Store.{Book, book, book_of, book_bytes}
 use Rattle.store.proofs.Laws.{many_sources, sound_book}
 use Rattle.ledger.specs.Lists.{present}
 use Rattle.ledger.specs.Changes.{Change, renewing}
-use Rattle.ledger.specs.Ledger.{Rounded, seated}
+use Rattle.ledger.specs.Ledger.{Rounded}
 use Rattle.calls.proofs.Rounded.{renewing_sound, change_stand, told_barred, told_late, told_done}
 use Rattle.undamaged.proofs.change_wall.Statement.{statement}
 use Rattle.undamaged.proofs.change_wall.Tie as tie

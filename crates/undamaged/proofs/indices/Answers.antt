@@ -1,7 +1,7 @@
 -- `indices` reads a receiver's account and tells its two indices. Assumes nothing.
 -- what is told of a receiver in use
 use mathlib.Core.Path.{sym, ap, ◌∙◌}
-use Prim.Native.Nat.{ℕ, ◌-◌, ◌≤◌}
+use Prim.Native.Nat.{ℕ, ◌≤◌}
 use mathlib.Core.Option.{Option}
 use borrow.Author.Tests.{leb-true, not-true, not-false}
 use Rattle.store.specs.declared.Held.{Held}

@@ -1,6 +1,5 @@
 -- `place_wall` judges the fields, then the slot. Assumes nothing.
 use mathlib.Core.Path.{sym, ap, ◌∙◌}
-use Prim.Native.Nat.{◌-◌}
 use native.Mathlib.Omega.{arith}
 use mathlib.Core.Option.{some}
 use Rattle.road.specs.declared.Verdict.{Verdict}

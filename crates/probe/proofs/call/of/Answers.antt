@@ -2,6 +2,7 @@
 -- Assumes nothing.
 use Prim.Native.Nat.{ℕ}
 use mathlib.Core.Path.{sym, ap, ◌∙◌}
+use native.Mathlib.Omega.{arith}
 use Rattle.request.specs.declared.Counts.TheVariants.{ByPeriod, ByDay}
 use Rattle.request.specs.declared.Request.TheVariants.{PlaceReceiver, WithdrawReceiver, PlaceSource, WithdrawSource, PlaceWall, WithdrawWall, Ask}
 use Rattle.probe.specs.Raw.{one, two, raw_receiver, raw_piece, raw_daily, raw_wall, call_by}
@@ -56,4 +57,4 @@ pub returns-in_default : goal.returns-in_default
 returns-in_default c =
     ap Ask c.two-slot.ensures
     ∙ sym (ask_else (one c.args.raw.now 0) (two c.args.raw.now 1) (raw_receiver c.args.raw.now) (raw_piece c.args.raw.now) (raw_daily c.args.raw.now) (raw_wall c.args.raw.now)
-    c.in_default.in_default-own.rest.0.0.0.0.0.0.0.1 c.in_default.in_default-own.rest.0.0.0.0.0.0.1 c.in_default.in_default-own.rest.0.0.0.0.0.1 c.in_default.in_default-own.rest.0.0.0.0.1 c.in_default.in_default-own.rest.0.0.0.1 c.in_default.in_default-own.rest.0.0.1 c.in_default.in_default-own.rest.0.1 c.in_default.in_default-own.rest.1)
+    (omega arith) (omega arith) (omega arith) (omega arith) (omega arith) (omega arith) (omega arith) (omega arith))
