@@ -14,7 +14,8 @@ use screen::Wall;
 pub fn clear(store: &mut [u8]) -> Answer
     ensures { (result, store.new) ≡ clear_store store.old }
 {
-    if store.len() != store::LENGTH {
+    let unfit = store.len() != store::LENGTH;
+    if unfit {
         return Answer::Refused(Refusal::Damaged);
     }
     store::wipe(store);

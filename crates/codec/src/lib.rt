@@ -84,13 +84,15 @@ pub fn read(steps: &[u32; 1000], job: &[u8]) -> Reading
     if (job.len() == 0) | (job.len() < bytes) {
         return refuse(Refusal::CutShort);
     }
-    if bytes == 0 {
+    let unlisted = bytes == 0;
+    if unlisted {
         return refuse(Refusal::UnknownKind);
     }
     let mut v = [0u64; 25];
     values(job, kind, &mut v[..count]);
     let leftover = v[fields + 1];
-    if 0 < leftover {
+    let left = 0 < leftover;
+    if left {
         return refuse(Refusal::Leftover);
     }
     hear(steps, kind, &v[..count])

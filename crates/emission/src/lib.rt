@@ -220,7 +220,8 @@ fn voice(steps: &[u32; 1000], lanes: u8, pace: Pace, steady: Term, t: Traffic) -
     requires up_bound { (steady.up ≤ 20000) × (steady.down ≤ 20000) }
     ensures { result ≡ voice_by lanes pace steady t }
 {
-    if t.m == 0 {
+    let silent = t.m == 0;
+    if silent {
         return Voice {
             sounds: false,
             level: Term { up: 0, down: 0 },

@@ -371,7 +371,8 @@ fn uncut_source(v: &[u64]) -> Source
     ensures { result ≡ source_in 3 v.now }
 {
     let course = Course::Uncut(fields::piece_of(v, FIRST));
-    fields::source_of(course, v, AFTER_PIECE)
+    let s = fields::source_of(course, v, AFTER_PIECE);
+    s
 }
 
 // The one that kind 6 stands for.

@@ -77,7 +77,8 @@ fn torn(v: &[u64; NUMBERS]) -> bool
     requires { Fit (party_layout held_party) 0 v.now }
     ensures { result ≡ is_torn (slot_by held_party v.now) }
 {
-    if v[0] != 1 {
+    let unmarked = v[0] != 1;
+    if unmarked {
         return !slot::blank(v);
     }
     let h = held_from(v);

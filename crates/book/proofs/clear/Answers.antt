@@ -9,15 +9,15 @@ use Rattle.calls.specs.declared.Answer.TheVariants.{Done}
 use Rattle.calls.specs.Calls.{clear_store}
 use Rattle.book.proofs.clear.Goals as goal
 
-pub returns-then-store-ne-LENGTH : goal.returns-then-store-ne-LENGTH
+pub returns-then-unfit : goal.returns-then-unfit
 unfolding clear_store store_length
-returns-then-store-ne-LENGTH c = rw (ne_eqb (length c.args.store.now) store_length c.if-store-ne-LENGTH.true, clear_store)
+returns-then-unfit c = rw (ne_eqb (length c.args.store.now) store_length c.if-unfit.true, clear_store)
 
 pub wipe-requires : goal.wipe-requires
 unfolding store_length
-wipe-requires c = c.if-store-ne-LENGTH.false
+wipe-requires c = c.if-unfit.false
 
 pub returns : goal.returns
 unfolding clear_store store_length
 returns c =
-    rw (eq-eqb (length c.args.store.now) store_length c.if-store-ne-LENGTH.false, clear_store) (ap (λ (t : List ℕ). (Done, t)) c.wipe.ensures)
+    rw (eq-eqb (length c.args.store.now) store_length c.if-unfit.false, clear_store) (ap (λ (t : List ℕ). (Done, t)) c.wipe.ensures)

@@ -23,11 +23,11 @@ returns-then-job-bytes c =
     let cut : cut_short c.args.job.now ≡ true = ap (λ (m : ℕ). eqb (length c.args.job.now) 0 || ltb (length c.args.job.now) m) (sym n) ∙ c.if-job-bytes.true in
     c.refuse.ensures ∙ read_cut c.args.job.now cut
 
-pub returns-then-bytes-eq0 : goal.returns-then-bytes-eq0
-returns-then-bytes-eq0 c =
+pub returns-then-unlisted : goal.returns-then-unlisted
+returns-then-unlisted c =
     let n : c.shape_of-shape.result.bytes ≡ length_of c.args.job.now = ap (λ (x : Shape). x.bytes) c.shape_of-shape.ensures ∙ ap (λ (i : ℕ). size (layout_of i)) c.kind_of-kind.ensures in
     let cut : cut_short c.args.job.now ≡ false = ap (λ (m : ℕ). eqb (length c.args.job.now) 0 || ltb (length c.args.job.now) m) (sym n) ∙ c.if-job-bytes.false in
-    c.refuse-then-bytes-eq0.ensures ∙ read_unknown c.args.job.now cut (eq-eqb (length_of c.args.job.now) 0 (sym n ∙ c.if-bytes-eq0.true))
+    c.refuse-then-unlisted.ensures ∙ read_unknown c.args.job.now cut (eq-eqb (length_of c.args.job.now) 0 (sym n ∙ c.if-unlisted.true))
 
 pub slice_bounds-v-end : goal.slice_bounds-v-end
 slice_bounds-v-end c =
@@ -57,14 +57,14 @@ pub bounds-v-fields : goal.bounds-v-fields
 bounds-v-fields c =
     omega (arith, row_fields c.kind_of-kind.result, ap (λ (x : Shape). x.fields) c.shape_of-shape.ensures)
 
-pub returns-then-leftover-gt0 : goal.returns-then-leftover-gt0
-returns-then-leftover-gt0 c =
+pub returns-then-left : goal.returns-then-left
+returns-then-left c =
     let n : c.shape_of-shape.result.bytes ≡ length_of c.args.job.now = ap (λ (x : Shape). x.bytes) c.shape_of-shape.ensures ∙ ap (λ (i : ℕ). size (layout_of i)) c.kind_of-kind.ensures in
     let cut : cut_short c.args.job.now ≡ false = ap (λ (m : ℕ). eqb (length c.args.job.now) 0 || ltb (length c.args.job.now) m) (sym n) ∙ c.if-job-bytes.false in
-    let known : unknown_kind c.args.job.now ≡ false = ne_eqb (length_of c.args.job.now) 0 (λ e. c.if-bytes-eq0.false (n ∙ e)) in
+    let known : unknown_kind c.args.job.now ≡ false = ne_eqb (length_of c.args.job.now) 0 (λ e. c.if-unlisted.false (n ∙ e)) in
     let v = read_into c.kind_of-kind.result c.shape_of-shape.result.count c.args.job.now c.values.ensures (ap (λ (x : Shape). x.count) c.shape_of-shape.ensures) in
     let left = leftover_at c.args.job.now _ c.kind_of-kind.result c.shape_of-shape.result.fields c.kind_of-kind.ensures v (ap (λ (x : Shape). x.fields) c.shape_of-shape.ensures) in
-    c.refuse-then-leftover-gt0.ensures ∙ read_leftover c.args.job.now cut known (ap (ltb 0) (sym left) ∙ lt-ltb 0 _ c.if-leftover-gt0.true)
+    c.refuse-then-left.ensures ∙ read_leftover c.args.job.now cut known (ap (ltb 0) (sym left) ∙ lt-ltb 0 _ c.if-left.true)
 
 pub slice_bounds-v-end-2 : goal.slice_bounds-v-end-2
 slice_bounds-v-end-2 c =
@@ -81,7 +81,7 @@ pub hear-requires : goal.hear-requires
 hear-requires c =
     let n : c.shape_of-shape.result.bytes ≡ length_of c.args.job.now = ap (λ (x : Shape). x.bytes) c.shape_of-shape.ensures ∙ ap (λ (i : ℕ). size (layout_of i)) c.kind_of-kind.ensures in
     let e : size (layout_of c.kind_of-kind.result) ≡ length_of c.args.job.now = ap (λ (i : ℕ). size (layout_of i)) c.kind_of-kind.ensures in
-    let z : length_of c.args.job.now ≡ 0 → ⊥ = λ h. c.if-bytes-eq0.false (n ∙ h) in
+    let z : length_of c.args.job.now ≡ 0 → ⊥ = λ h. c.if-unlisted.false (n ∙ h) in
     let m = ap (λ (x : Shape). x.count) c.shape_of-shape.ensures in
     let v = read_into c.kind_of-kind.result c.shape_of-shape.result.count c.args.job.now c.values.ensures m in
     let f = first_values c.kind_of-kind.result c.shape_of-shape.result.count c.args.job.now _ m v in
@@ -91,11 +91,11 @@ pub returns : goal.returns
 returns c =
     let n : c.shape_of-shape.result.bytes ≡ length_of c.args.job.now = ap (λ (x : Shape). x.bytes) c.shape_of-shape.ensures ∙ ap (λ (i : ℕ). size (layout_of i)) c.kind_of-kind.ensures in
     let cut : cut_short c.args.job.now ≡ false = ap (λ (m : ℕ). eqb (length c.args.job.now) 0 || ltb (length c.args.job.now) m) (sym n) ∙ c.if-job-bytes.false in
-    let known : unknown_kind c.args.job.now ≡ false = ne_eqb (length_of c.args.job.now) 0 (λ e. c.if-bytes-eq0.false (n ∙ e)) in
+    let known : unknown_kind c.args.job.now ≡ false = ne_eqb (length_of c.args.job.now) 0 (λ e. c.if-unlisted.false (n ∙ e)) in
     let m = ap (λ (x : Shape). x.count) c.shape_of-shape.ensures in
     let v = read_into c.kind_of-kind.result c.shape_of-shape.result.count c.args.job.now c.values.ensures m in
     let left = leftover_at c.args.job.now _ c.kind_of-kind.result c.shape_of-shape.result.fields c.kind_of-kind.ensures v (ap (λ (x : Shape). x.fields) c.shape_of-shape.ensures) in
     c.hear.ensures
     ∙ ap (heard c.kind_of-kind.result) (first_values c.kind_of-kind.result c.shape_of-shape.result.count c.args.job.now _ m v)
     ∙ ap (λ (i : ℕ). heard i (fields (layout_of i) c.args.job.now)) c.kind_of-kind.ensures
-    ∙ read_heard c.args.job.now cut known (ap (ltb 0) (sym left) ∙ le-ltb 0 _ c.if-leftover-gt0.false)
+    ∙ read_heard c.args.job.now cut known (ap (ltb 0) (sym left) ∙ le-ltb 0 _ c.if-left.false)

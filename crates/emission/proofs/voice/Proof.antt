@@ -11,7 +11,7 @@ use Rattle.road.proofs.Sums.{Small, weighed, small_traffic, small_speed}
 use Rattle.emission.proofs.voice.Statement.{statement}
 use Rattle.emission.proofs.voice.Tie as tie
 
-returns : tie.Need-returns-then-t-eq0
+returns : tie.Need-returns-then-silent
 returns c = rw (eq-eqb c.args.t.m 0 (omega arith))
 
 traffic-requires : tie.Need-traffic-at_25-requires
@@ -25,7 +25,7 @@ at_25 : (c : tie.After-traffic-at_25) → Small 20000 c.traffic-at_25.result
 at_25 c =
     let start = c.before.before.before in
     let p = start.requires.0 in
-    rw c.traffic-at_25.ensures (small_traffic start.args.lanes start.args.t (weighed start.args.t (pos_of_ne-zero c.if-t-eq0.false) p.3 p.4))
+    rw c.traffic-at_25.ensures (small_traffic start.args.lanes start.args.t (weighed start.args.t (pos_of_ne-zero c.if-silent.false) p.3 p.4))
 
 by_speed : (c : tie.After-speed-by_speed) → Small 40000 c.speed-by_speed.result
 by_speed c =
@@ -52,7 +52,7 @@ add-down-2 c =
 returns-2 : tie.Need-returns
 returns-2 c =
     let start = c.before.before.before.before.before.before.before.before.before.before in
-    rw (ne_eqb start.args.t.m 0 c.if-t-eq0.false)
+    rw (ne_eqb start.args.t.m 0 c.if-silent.false)
     (ap₂ (λ (a b : Term). record { sounds = true; level = a ⊕ b ⊕ start.args.steady })
     c.traffic-at_25.ensures
     c.speed-by_speed.ensures)

@@ -6,8 +6,8 @@ use Rattle.level.proofs.Laws.{tens}
 use Rattle.level.proofs.Signs.{energy_lower, energy_far_below}
 use Rattle.level.proofs.energy_below.Goals as goal
 
-pub returns-then-below-gt6000 : goal.returns-then-below-gt6000
-returns-then-below-gt6000 c = sym (energy_far_below 0 c.args.below (omega arith))
+pub returns-then-far : goal.returns-then-far
+returns-then-far c = sym (energy_far_below 0 c.args.below (omega arith))
 
 pub nonzero_div-result : goal.nonzero_div-result
 nonzero_div-result c = rw c.tens.ensures (tens ((c.args.below + 999) / 1000))

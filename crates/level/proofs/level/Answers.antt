@@ -5,8 +5,8 @@ use Rattle.level.specs.declared.Loudness.TheVariants.{Level}
 use Rattle.level.proofs.Laws.{heard_quiet, heard_level}
 use Rattle.level.proofs.level.Goals as goal
 
-pub returns-then-energy-lt1000000 : goal.returns-then-energy-lt1000000
-returns-then-energy-lt1000000 c = sym (heard_quiet c.args.energy (omega arith))
+pub returns-then-quiet : goal.returns-then-quiet
+returns-then-quiet c = sym (heard_quiet c.args.energy (omega arith))
 
 pub returns : goal.returns
 returns c = ap Level c.level_of.ensures ∙ sym (heard_level c.args.energy (omega arith))

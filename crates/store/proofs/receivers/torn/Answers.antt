@@ -19,16 +19,16 @@ judged : (v : List ℕ) (h : Held) (w : Verdict) → get_or v 0 0 ≡ 1 → h �
 judged v h w m f g =
     ap (λ (x : Verdict). not (is_allowed x && sound h.sums)) (sym g) ∙ ap (λ (x : Held). not (is_allowed (receiver_verdict x.who) && sound x.sums)) f ∙ sym (torn_marked held_party v m)
 
-pub returns-then-v-ne1 : goal.returns-then-v-ne1
-returns-then-v-ne1 c = ap not c.blank.ensures ∙ sym (torn_unmarked held_party _ c.if-v-ne1.true)
+pub returns-then-unmarked : goal.returns-then-unmarked
+returns-then-unmarked c = ap not c.blank.ensures ∙ sym (torn_unmarked held_party _ c.if-unmarked.true)
 
 pub returns-in-Allowed : goal.returns-in-Allowed
 returns-in-Allowed c =
     ap not c.sound.ensures
-    ∙ judged _ _ _ c.if-v-ne1.false c.held_from-h.ensures
+    ∙ judged _ _ _ c.if-unmarked.false c.held_from-h.ensures
     (sym c.judge_receiver.ensures ∙ c.in-Allowed.is)
 
 pub returns-in-Refused : goal.returns-in-Refused
 returns-in-Refused c =
-    judged _ _ _ c.if-v-ne1.false c.held_from-h.ensures
+    judged _ _ _ c.if-unmarked.false c.held_from-h.ensures
     (sym c.judge_receiver.ensures ∙ c.in-Refused.is)
