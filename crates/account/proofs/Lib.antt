@@ -1,3 +1,2 @@
--- Laws of accounts, and that each function settles its outcome.
-pub mod Laws
+-- Each function of an account settles its outcome.
 pub mod Settled

@@ -11,8 +11,8 @@ use road::Shares;
 // The most that a sum may be.
 const TOP: u64 = 512_000_000_000_000_000;
 
-// Three energy sums.
-#[derive(Clone, Copy)]
+// Three energy sums, by default those before any share.
+#[derive(Clone, Copy, Default)]
 pub struct Account {
     pub day: u64,
     pub evening: u64,
@@ -23,10 +23,7 @@ pub struct Account {
 fn fits(x: u64, y: u64) -> bool
     ensures { result ≡ leb (x + y) top }
 {
-    if TOP < x {
-        return false;
-    }
-    y <= TOP - x
+    x.saturating_add(y) <= TOP
 }
 
 impl Account {
@@ -34,21 +31,21 @@ impl Account {
     pub fn sound(self) -> bool
         ensures { result ≡ sound self }
     {
-        (self.day <= TOP) & (self.evening <= TOP) & (self.night <= TOP)
+        self.day <= TOP && self.evening <= TOP && self.night <= TOP
     }
 
     // Whether the shares lift no sum above TOP.
     pub fn room(self, s: Shares) -> bool
         ensures { result ≡ room self s }
     {
-        fits(self.day, s.day) & fits(self.evening, s.evening) & fits(self.night, s.night)
+        fits(self.day, s.day) && fits(self.evening, s.evening) && fits(self.night, s.night)
     }
 
     // Whether no share is above its sum.
     pub fn covers(self, s: Shares) -> bool
         ensures { result ≡ covers self s }
     {
-        (s.day <= self.day) & (s.evening <= self.evening) & (s.night <= self.night)
+        s.day <= self.day && s.evening <= self.evening && s.night <= self.night
     }
 
     // The account with the shares added.

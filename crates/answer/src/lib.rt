@@ -60,19 +60,12 @@ pub fn place(r: Refusal) -> u16
     ensures { result ≡ place_of r }
 {
     match r {
-        Refusal::Damaged => 0,
-        Refusal::CutShort => 0,
-        Refusal::UnknownKind => 0,
-        Refusal::Leftover => 0,
         Refusal::Field(field) => field,
-        Refusal::SlowSurface => 0,
-        Refusal::QuietTruck => 0,
-        Refusal::Taken => 0,
-        Refusal::Vacant => 0,
-        Refusal::TooNear(slot) => slot,
-        Refusal::TooFar(slot) => slot,
-        Refusal::TooLong(slot) => slot,
-        Refusal::TooLoud(slot) => slot,
-        Refusal::TwoWalls(slot) => slot,
+        Refusal::TooNear(slot)
+        | Refusal::TooFar(slot)
+        | Refusal::TooLong(slot)
+        | Refusal::TooLoud(slot)
+        | Refusal::TwoWalls(slot) => slot,
+        _ => 0,
     }
 }

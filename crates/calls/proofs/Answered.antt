@@ -1,5 +1,6 @@
 -- A call refuses in the order of the numbers: each test is answered before those behind it.
 -- Assumes nothing.
+use Rattle.std.specs.Prelude.{Ok, Err}
 use Prim.Native.Nat.{ℕ}
 use mathlib.Core.Path.{◌≡◌, refl}
 use mathlib.Core.Bool.{Bool, true, false}
@@ -10,8 +11,7 @@ use Rattle.answer.specs.declared.Refusal.TheVariants.{Damaged, Vacant}
 use Rattle.screen.specs.declared.Wall.{Wall}
 use Rattle.road.specs.declared.Source.{Source}
 use Rattle.road.specs.declared.Receiver.{Receiver}
-use Rattle.road.specs.declared.Verdict.{Verdict}
-use Rattle.road.specs.declared.Verdict.TheVariants.{Allowed, Refused}
+use Rattle.road.specs.Results.{Verdict}
 use Rattle.store.specs.declared.Held.{Held}
 use Rattle.store.specs.Store.{Book}
 use Rattle.ledger.specs.Lists.{present, every}
@@ -21,20 +21,20 @@ use Rattle.calls.specs.Order.{SourceOrder, ReceiverOrder, WallOrder, VacantOrder
 
 -- ---- each gate, whatever stands behind it
 
-by_fields : (v : Verdict) (k : Step) (why : Refusal) → v ≡ Refused why → allow v k ≡ refuse why
+by_fields : (v : Verdict) (k : Step) (why : Refusal) → v ≡ Err why → allow v k ≡ refuse why
 by_fields v k why e = rw e
 
-by_barred : (v : Verdict) (w : Option Refusal) (k : Step) (why : Refusal) → v ≡ Allowed → w ≡ some why → allow v (unless_barred w k) ≡ refuse why
+by_barred : (v : Verdict) (w : Option Refusal) (k : Step) (why : Refusal) → v ≡ Ok tt → w ≡ some why → allow v (unless_barred w k) ≡ refuse why
 by_barred v w k why e f = rw (e, f)
 
-by_late : (v : Verdict) (w : Option Refusal) (t : Bool) (k : Step) → v ≡ Allowed → w ≡ none → t ≡ false
+by_late : (v : Verdict) (w : Option Refusal) (t : Bool) (k : Step) → v ≡ Ok tt → w ≡ none → t ≡ false
     → allow v (unless_barred w (unless_late t k)) ≡ refuse Damaged
 by_late v w t k e f g = rw (e, f, g)
 
-by_done : (v : Verdict) (w : Option Refusal) (t : Bool) (k : Step) → v ≡ Allowed → w ≡ none → t ≡ true → allow v (unless_barred w (unless_late t k)) ≡ k
+by_done : (v : Verdict) (w : Option Refusal) (t : Bool) (k : Step) → v ≡ Ok tt → w ≡ none → t ≡ true → allow v (unless_barred w (unless_late t k)) ≡ k
 by_done v w t k e f g = rw (e, f, g)
 
-by_placed : (v : Verdict) (w : Option Refusal) (k : Step) → v ≡ Allowed → w ≡ none → allow v (unless_barred w k) ≡ k
+by_placed : (v : Verdict) (w : Option Refusal) (k : Step) → v ≡ Ok tt → w ≡ none → allow v (unless_barred w k) ≡ k
 by_placed v w k e f = rw (e, f)
 
 -- whoever is asked nothing can follow
@@ -42,7 +42,7 @@ all_can : (l : List Held) → every (λ (x : Held). true) l ≡ true
 all_can [] = refl
 all_can (x ∷ l) = all_can l
 
-by_vacant : {A : Type 0} (v : Verdict) (o : Option A) (k : A → Step) → v ≡ Allowed → o ≡ none → allow v (from_used o k) ≡ refuse Vacant
+by_vacant : {A : Type 0} (v : Verdict) (o : Option A) (k : A → Step) → v ≡ Ok tt → o ≡ none → allow v (from_used o k) ≡ refuse Vacant
 by_vacant v o k e f = rw (e, f)
 
 -- ---- the calls that place

@@ -1,5 +1,6 @@
 -- Every call keeps an undamaged store undamaged, whatever book stands in it: what it comes to is a book that a store can hold, or no change.
 -- Assumes nothing.
+use Rattle.std.specs.Prelude.{Ok, Err}
 use mathlib.Core.Path.{◌≡◌, refl, sym, ap, subst, ◌∙◌}
 use mathlib.Core.Bool.{Bool, true, false}
 use mathlib.Core.Option.{Option, none, some}
@@ -10,8 +11,7 @@ use Rattle.answer.specs.declared.Refusal.{Refusal}
 use Rattle.screen.specs.declared.Wall.{Wall}
 use Rattle.road.specs.declared.Source.{Source}
 use Rattle.road.specs.declared.Receiver.{Receiver}
-use Rattle.road.specs.declared.Verdict.{Verdict}
-use Rattle.road.specs.declared.Verdict.TheVariants.{Allowed, Refused as Barring}
+use Rattle.road.specs.Results.{Verdict}
 use Rattle.road.specs.Reach.{pair_of}
 use Rattle.road.proofs.Pairs.{pair_bounded}
 use Rattle.road.specs.Judge.{source_verdict, receiver_verdict, wall_verdict, slot_verdict}
@@ -19,7 +19,7 @@ use Rattle.store.specs.declared.Held.{Held}
 use Rattle.store.specs.Slots.{Each}
 use Rattle.store.specs.Store.{last_source, last_receiver, last_wall, Book, book, damaged, book_of, SourceStands, HeldStands, WallStands, SoundBook}
 use Rattle.store.proofs.Laws.{many_sources, sound_book, book_bytes_lem, sound_source, sound_held, sound_wall}
-use Rattle.calls.specs.declared.Answer.{Answer}
+use Rattle.calls.specs.Calls.{Answer}
 use Rattle.ledger.specs.Lists.{omap, present, every, first_bar, weigh}
 use Rattle.ledger.specs.Changes.{Change, follow, bar_of, exchange, renewing}
 use Rattle.calls.specs.Calls.{Step, refuse, tell, change, allow, from_used, unless_barred, unless_late}
@@ -36,9 +36,9 @@ Keep (refuse r) = Unit {0}
 Keep (tell a) = Unit {0}
 Keep (change b) = SoundBook b
 
-keep_allowed : (v : Verdict) (k : Step) → (v ≡ Allowed → Keep k) → Keep (allow v k)
-keep_allowed Allowed k f = f refl
-keep_allowed (Barring r) k f = tt
+keep_allowed : (v : Verdict) (k : Step) → (v ≡ Ok tt → Keep k) → Keep (allow v k)
+keep_allowed (Ok tt) k f = f refl
+keep_allowed (Err r) k f = tt
 
 keep_used : {A : Type 0} (o : Option A) (k : A → Step) → ((a : A) → Keep (k a)) → Keep (from_used o k)
 keep_used none k f = tt
@@ -107,7 +107,7 @@ module _ (b : Book) (h : SoundBook b) where
   pub source_out : (i : ℕ) → Keep (withdraw_source i b)
   unfolding withdraw_source
   source_out i =
-      keep_allowed (slot_verdict last_source i Allowed) _ λ v.
+      keep_allowed (slot_verdict last_source i (Ok tt)) _ λ v.
       keep_used (get_or b.sources i none) _ λ s.
       source_changed i none (λ (a : Source) e. never cc)
 
@@ -128,7 +128,7 @@ module _ (b : Book) (h : SoundBook b) where
   pub receiver_out : (j : ℕ) → Keep (withdraw_receiver j b)
   unfolding withdraw_receiver
   receiver_out j =
-      keep_allowed (slot_verdict last_receiver j Allowed) _ λ v.
+      keep_allowed (slot_verdict last_receiver j (Ok tt)) _ λ v.
       keep_used (get_or b.receivers j none) _ λ x.
       sound_held b j none h (λ (a : Held) e. never cc)
 
@@ -141,13 +141,13 @@ module _ (b : Book) (h : SoundBook b) where
   pub wall_out : (k : ℕ) → Keep (withdraw_wall k b)
   unfolding withdraw_wall
   wall_out k =
-      keep_allowed (slot_verdict last_wall k Allowed) _ λ v.
+      keep_allowed (slot_verdict last_wall k (Ok tt)) _ λ v.
       keep_used (get_or b.walls k none) _ λ w.
       wall_changed k none (λ (a : Wall) e. never cc)
 
   pub asked : (j : ℕ) → Keep (ask_receiver j b)
   unfolding ask_receiver
-  asked j = keep_allowed (slot_verdict last_receiver j Allowed) _ λ v. keep_used (get_or b.receivers j none) _ λ x. tt
+  asked j = keep_allowed (slot_verdict last_receiver j (Ok tt)) _ λ v. keep_used (get_or b.receivers j none) _ λ x. tt
 
 -- ---- on bytes
 

@@ -1,7 +1,8 @@
 -- What the first pass of a round tells of a change: its bar, whether all receivers can follow, and the seats to write.
 -- Assumes nothing.
+use Rattle.std.specs.Prelude.{None, Ok, Err}
 use mathlib.Core.Path.{◌≡◌, refl, sym, ap, ap₂, ◌∙◌, subst}
-use mathlib.Core.Bool.{Bool, true, false, not}
+use mathlib.Core.Bool.{Bool, true, false}
 use mathlib.Core.Option.{Option, none, some}
 use mathlib.Core.List.{List, [], ◌∷◌, map}
 use Prim.Native.Nat.{ℕ, zero, suc}
@@ -14,21 +15,16 @@ use Rattle.road.specs.declared.Source.{Source}
 use Rattle.road.specs.Reach.{pair_of}
 use Rattle.road.specs.Pairs.{Pairing, is_heard}
 use Rattle.store.specs.declared.Held.{Held}
-use Rattle.store.specs.declared.Seat.{Seat}
 use Rattle.account.specs.Account.{sound, covers}
 use Rattle.road.proofs.Pairs.{pair_bounded}
-use Rattle.store.specs.Store.{receiver_count, source_slots, Book, book_of, book_bytes, HeldStands, SoundBook}
-use Rattle.ledger.specs.declared.round.Stop.TheVariants.{Nowhere, At}
-use Rattle.ledger.specs.declared.round.Round.{Round}
+use Rattle.store.specs.Store.{receiver_count, source_slots, Seat, Book, book_of, book_bytes, HeldStands, SoundBook}
 use Rattle.ledger.specs.Lists.{omap, present, every}
 use Rattle.ledger.specs.Changes.{Change, follow, bar_of, pair_by, exchange, renewing}
-use Rattle.ledger.specs.Ledger.{vacant, to_seat, Rounded, seated, StandingSeats}
-use Rattle.ledger.proofs.Entries.{stop_none, stop_some}
-use Rattle.ledger.proofs.Rounds.{false_true, and_both, seated_map}
-use Rattle.calls.specs.declared.Answer.{Answer}
-use Rattle.calls.specs.declared.Answer.TheVariants.{Done, Refused}
+use Rattle.ledger.specs.Ledger.{to_seat, unless_stopped, in_time, rounded, seated, SeatStands, StandingSeats}
+use Rattle.ledger.proofs.Rounds.{and_both, seated_map}
+use Rattle.calls.specs.declared.Reply.TheVariants.{Done}
 use Rattle.calls.specs.Calls.{change, told, unless_barred, unless_late, followed}
-use Rattle.calls.proofs.Sums.{weigh_sound}
+use Rattle.calls.proofs.Sums.{never, weigh_sound}
 
 -- ---- the seats of a round may be in the book
 
@@ -43,24 +39,17 @@ seats_stand : (f : Held → Held) (l : List (Option Held)) → length l ≡ rece
     → StandingSeats (map to_seat (map (omap f) l))
 seats_stand f l n h = record {
   count = length-map (map (omap f) l) to_seat ∙ length-map l (omap f) ∙ n;
-  stand = λ j. go j (get_or l j none) refl (at l j);
+  stand = λ j. subst SeatStands (sym (at l j)) (go j (get_or l j none) refl);
 }
   where
-    at : (m : List (Option Held)) (j : ℕ) → get_or (map to_seat (map (omap f) m)) j vacant ≡ to_seat (omap f (get_or m j none))
+    at : (m : List (Option Held)) (j : ℕ) → get_or (map to_seat (map (omap f) m)) j None ≡ to_seat (omap f (get_or m j none))
     at [] j = refl
     at (o ∷ m) zero = refl
     at (o ∷ m) (suc j) = at m j
 
-    go : (j : ℕ) (o : Option Held) → get_or l j none ≡ o → get_or (map to_seat (map (omap f) l)) j vacant ≡ to_seat (omap f (get_or l j none))
-        → (get_or (map to_seat (map (omap f) l)) j vacant).used ≡ true → HeldStands (get_or (map to_seat (map (omap f) l)) j vacant).held
-    go j none e q u = absurd (false_true (sym (ap (λ (t : Seat). t.used) (q ∙ ap (λ (o : Option Held). to_seat (omap f o)) e)) ∙ u))
-    go j (some x) e q u = rw (q ∙ ap (λ (o : Option Held). to_seat (omap f o)) e) (h j x e)
-
-not_back : (a b : Bool) → a ≡ not b → b ≡ not a
-not_back true false e = refl
-not_back false true e = refl
-not_back true true e = e
-not_back false false e = e
+    go : (j : ℕ) (o : Option Held) → get_or l j none ≡ o → SeatStands (to_seat (omap f o))
+    go j none e = tt
+    go j (some x) e = h j x e
 
 -- ---- a change that keeps every sum in its bounds
 
@@ -75,47 +64,41 @@ exchange_sound pair goes comes x e f = (and_both (covers x.sums _) _ (and_both (
 pub renewing_sound : (ws : List Wall) (S : List (Option Source)) → length S ≡ source_slots → KeepsSound (renewing (pair_of ws) (present S))
 renewing_sound ws S n x e f = weigh_sound (pair_of ws) (pair_bounded ws) S x.who n
 
--- ---- what the first pass tells of a change
+-- ---- a round that gives seats: no bar, and all follow
 
-module _ (c : Change) (b : Book) (r : Round) (g : Rounded c b.receivers r) where
-  pub change_barred : (why : Refusal) → r.stop ≡ At why → bar_of c b.receivers ≡ some why
-  change_barred why e = stop_some _ why (sym g.stop ∙ e)
+given : (o : Option Refusal) (fits : Bool) (ts us : List Seat) → Ok us ≡ unless_stopped o (in_time fits ts) → (o ≡ none) × (fits ≡ true) × (us ≡ ts)
+given none true ts us e = (refl, refl, cc)
+given none false ts us e = never cc
+given (some r) fits ts us e = never cc
 
-  module _ (e : r.stop ≡ Nowhere) where
-    pub change_clear : bar_of c b.receivers ≡ none
-    change_clear = stop_none _ (sym g.stop ∙ e)
+module _ (c : Change) (b : Book) (ts : List Seat) (g : Ok ts ≡ rounded c b.receivers) where
+  all_given : (bar_of c b.receivers ≡ none) × (every c.fits (present b.receivers) ≡ true) × (ts ≡ map to_seat (map (omap (follow c)) b.receivers))
+  all_given = given _ _ _ _ g
 
-    pub change_fits : every c.fits (present b.receivers) ≡ not r.late
-    change_fits = not_back r.late _ (g.late change_clear)
+  change_written : seated ts b.receivers ≡ map (omap (follow c)) b.receivers
+  change_written = ap (λ (us : List Seat). seated us b.receivers) all_given.2 ∙ seated_map (follow c) b.receivers
 
-    pub change_written : r.late ≡ false → seated r.seats b.receivers ≡ map (omap (follow c)) b.receivers
-    change_written f = ap (λ (t : List Seat). seated t b.receivers) (g.seats change_clear f) ∙ seated_map (follow c) b.receivers
+  pub change_stand : KeepsSound c → SoundBook b → StandingSeats ts
+  change_stand k h =
+      rw all_given.2 (seats_stand (follow c) b.receivers h.seats
+      (λ j x q. ((h.receivers_stand j x q).0, k x (h.receivers_stand j x q).1 (every_at c.fits b.receivers all_given.1 j x q))))
 
-    pub change_stand : KeepsSound c → SoundBook b → r.late ≡ false → StandingSeats r.seats
-    change_stand k h f =
-        rw (g.seats change_clear f) (seats_stand (follow c) b.receivers h.seats
-        (λ j x q. (
-          (h.receivers_stand j x q).0,
-          k x (h.receivers_stand j x q).1 (every_at c.fits b.receivers (change_fits ∙ ap not f) j x q),
-        )))
+-- ---- what a call answers and leaves, by what the round gives
 
--- ---- what a call answers and leaves, by what the first pass tells
+refused : (s : List ℕ) (o : Option Refusal) (fits : Bool) (ts : List Seat) (b : Book) (why : Refusal) → Err why ≡ unless_stopped o (in_time fits ts)
+    → (Err why, s) ≡ told s (unless_barred o (unless_late fits (change b)))
+refused s none true ts b why e = never cc
+refused s none false ts b why e = let k : why ≡ Damaged = cc in ap (λ (r : Refusal). (Err r, s)) k
+refused s (some r) fits ts b why e = let k : why ≡ r = cc in ap (λ (r : Refusal). (Err r, s)) k
 
-module _ (s : List ℕ) (c : Change) (after : List (Option Held) → Book) (r : Round) (g : Rounded c (book_of s).receivers r) where
-  comes_to_lem : Option Refusal → Bool → Answer × List ℕ
-  comes_to_lem b fits = told s (unless_barred b (unless_late fits (change (after (map (omap (follow c)) (book_of s).receivers)))))
+module _ (s : List ℕ) (c : Change) (after : List (Option Held) → Book) where
+  pub told_barred : (why : Refusal) → Err why ≡ rounded c (book_of s).receivers → (Err why, s) ≡ told s (followed c after (book_of s))
+  told_barred why e = refused s _ _ _ (after (map (omap (follow c)) (book_of s).receivers)) why e
 
-  pub told_barred : (why : Refusal) → r.stop ≡ At why → (Refused why, s) ≡ told s (followed c after (book_of s))
-  unfolding comes_to_lem
-  told_barred why e = ap (λ (b : Option Refusal). comes_to_lem b (every c.fits (present (book_of s).receivers))) (sym (change_barred c (book_of s) r g why e))
-
-  module _ (e : r.stop ≡ Nowhere) where
-    pub told_late : r.late ≡ true → (Refused Damaged, s) ≡ told s (followed c after (book_of s))
-    unfolding comes_to_lem
-    told_late f = ap₂ comes_to_lem (sym (change_clear c (book_of s) r g e)) (sym (change_fits c (book_of s) r g e ∙ ap not f))
-
-    pub told_done : (u : List ℕ) → r.late ≡ false → u ≡ book_bytes (after (seated r.seats (book_of s).receivers)) → (Done, u) ≡ told s (followed c after (book_of s))
-    unfolding comes_to_lem
-    told_done u f w =
-        ap (λ (v : List ℕ). (Done, v)) (w ∙ ap (λ (l : List (Option Held)). book_bytes (after l)) (change_written c (book_of s) r g e f))
-        ∙ ap₂ comes_to_lem (sym (change_clear c (book_of s) r g e)) (sym (change_fits c (book_of s) r g e ∙ ap not f))
+  pub told_done : (ts : List Seat) (u : List ℕ) → Ok ts ≡ rounded c (book_of s).receivers → u ≡ book_bytes (after (seated ts (book_of s).receivers))
+      → (Ok Done, u) ≡ told s (followed c after (book_of s))
+  told_done ts u g w =
+      let all = all_given c (book_of s) ts g in
+      let l = (book_of s).receivers in
+      ap (λ (v : List ℕ). (Ok Done, v)) (w ∙ ap (λ (m : List (Option Held)). book_bytes (after m)) (change_written c (book_of s) ts g))
+      ∙ sym (ap₂ (λ (o : Option Refusal) (fits : Bool). told s (unless_barred o (unless_late fits (change (after (map (omap (follow c)) l)))))) all.0 all.1)

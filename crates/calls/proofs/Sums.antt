@@ -1,5 +1,6 @@
 -- What holds of each in a list, and the sums of an account: no bar means that every pair is heard; no sum passes the most that it may be.
 -- Assumes nothing.
+use Rattle.std.specs.Prelude.{Ok, Err}
 use mathlib.Core.Path.{◌≡◌, refl, subst, ◌∙◌}
 use mathlib.Core.Bool.{Bool, true, ◌&&◌}
 use mathlib.Core.Option.{Option, none, some}
@@ -12,8 +13,7 @@ use lib.ListN.{length}
 use borrow.Author.Tests.{le-leb}
 use Rattle.road.specs.declared.Source.{Source}
 use Rattle.road.specs.declared.Receiver.{Receiver}
-use Rattle.road.specs.declared.Pair.{Pair}
-use Rattle.road.specs.declared.Pair.TheVariants.{Heard, Barred}
+use Rattle.road.specs.Results.{Pair}
 use Rattle.road.specs.Pairs.{Pairing, is_heard, most_share, share_in, Bounded}
 use Rattle.level.specs.Level.{top}
 use Rattle.account.specs.Account.{sound}
@@ -54,8 +54,8 @@ module _ {A : Type 0} (pair : A → Pair) where
   bars_pass j (some a ∷ l) e = go (pair a) (λ f. bars_pass (suc j) l f) e
     where
       go : (p : Pair) → (first_bar pair (suc j) l ≡ none → heard_all l) → or_bar j p (first_bar pair (suc j) l) ≡ none → (is_heard p ≡ true) × heard_all l
-      go (Heard h) ih e = (refl, ih e)
-      go (Barred b) ih e = never cc
+      go (Ok h) ih e = (refl, ih e)
+      go (Err b) ih e = never cc
 
 -- a receiver hears each of these sources
 abbrev pub HearsAll : Pairing → List Source → Receiver → Type 0

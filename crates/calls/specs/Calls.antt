@@ -1,6 +1,6 @@
 -- What each call of the book answers and leaves, in terms of the book: three lists of slots (METHOD 1 and 9).
 -- A call on bytes reads them as a book, asks one of these definitions, and writes the book that it gives.
-use Rattle.std.specs.Prelude.{ℕ, Bool, true, false, cond, List, map, length, get_or, set, eqb}
+use Rattle.std.specs.Prelude.{ℕ, Bool, true, false, cond, List, map, length, get_or, set, eqb, Ok, Err, Result}
 use Rattle.std.proofs.Math.Option.{Option, none, some}
 use Rattle.answer.specs.declared.Refusal.{Refusal}
 use Rattle.answer.specs.Table.{number_by, place_by}
@@ -8,9 +8,7 @@ use Rattle.answer.specs.declared.Refusal.TheVariants.{Damaged, Vacant}
 use Rattle.screen.specs.declared.Wall.{Wall}
 use Rattle.road.specs.declared.Source.{Source}
 use Rattle.road.specs.declared.Receiver.{Receiver}
-use Rattle.road.specs.declared.Verdict.{Verdict}
-use Rattle.road.specs.declared.Verdict.TheVariants.{Allowed}
-use Rattle.road.specs.declared.Verdict.TheVariants.{Refused as Barring}
+use Rattle.road.specs.Results.{Verdict}
 use Rattle.road.specs.Reach.{pair_of}
 use Rattle.road.specs.Pairs.{Pairing}
 use Rattle.road.specs.Judge.{source_verdict, receiver_verdict, wall_verdict, slot_verdict}
@@ -19,8 +17,8 @@ use Rattle.store.specs.declared.Held.{Held}
 use Rattle.store.specs.Store.{last_source, last_receiver, last_wall, Book, book, damaged, book_of, book_bytes, store_length, cleared_bytes}
 use Rattle.ledger.specs.Lists.{omap, present, every, first_bar, weigh}
 use Rattle.ledger.specs.Changes.{Change, follow, bar_of, exchange, renewing}
-use Rattle.calls.specs.declared.Answer.{Answer}
-use Rattle.calls.specs.declared.Answer.TheVariants.{Done, Levels, Refused}
+use Rattle.calls.specs.declared.Reply.{Reply}
+use Rattle.calls.specs.declared.Reply.TheVariants.{Done, Levels}
 
 -- ---- slots: lists of them, the first bar and an account worked out afresh are in the ledger's specs/Lists.antt, changes in its Changes.antt
 
@@ -31,11 +29,15 @@ module _ {A : Type 0} where
 
 -- ---- answers
 
+-- what a call answers: done or the two indices, or a refusal
+abbrev pub Answer : Type 0
+Answer = Result Reply Refusal
+
 -- the refusal in an answer, if it is one; number and place by it
 abbrev pub refusal_in : Answer → Option Refusal
-refusal_in Done = none
-refusal_in (Levels den night) = none
-refusal_in (Refused why) = some why
+refusal_in (Ok Done) = none
+refusal_in (Ok (Levels den night)) = none
+refusal_in (Err why) = some why
 
 abbrev pub number_in : Answer → ℕ
 number_in a = number_by (refusal_in a)
@@ -51,8 +53,8 @@ pub data Step : Type 0 where
   change : Book → Step
 
 abbrev pub allow : Verdict → Step → Step
-allow Allowed k = k
-allow (Barring r) k = refuse r
+allow (Ok tt) k = k
+allow (Err r) k = refuse r
 
 module _ {A : Type 0} where
   -- refusal 9: withdrawing or asking an unused slot
@@ -97,7 +99,7 @@ abbrev pub leave_source : ℕ → Book → Step
 leave_source i b = from_used (get_or b.sources i none) (λ s. change_source i none b)
 
 unfoldable pub withdraw_source : ℕ → Book → Step
-withdraw_source i b = allow (slot_verdict last_source i Allowed) (leave_source i b)
+withdraw_source i b = allow (slot_verdict last_source i (Ok tt)) (leave_source i b)
 
 -- receiver slot j: the account of whoever comes is worked out afresh
 abbrev pub bar_here : Book → Option Receiver → Option Refusal
@@ -116,7 +118,7 @@ abbrev pub leave_receiver : ℕ → Book → Step
 leave_receiver j b = from_used (get_or b.receivers j none) (λ x. change_receiver j none b)
 
 unfoldable pub withdraw_receiver : ℕ → Book → Step
-withdraw_receiver j b = allow (slot_verdict last_receiver j Allowed) (leave_receiver j b)
+withdraw_receiver j b = allow (slot_verdict last_receiver j (Ok tt)) (leave_receiver j b)
 
 -- wall slot k: every sum is worked out afresh among the walls that then stand
 abbrev pub change_wall : ℕ → Option Wall → Book → Step
@@ -131,30 +133,30 @@ abbrev pub leave_wall : ℕ → Book → Step
 leave_wall k b = from_used (get_or b.walls k none) (λ w. change_wall k none b)
 
 unfoldable pub withdraw_wall : ℕ → Book → Step
-withdraw_wall k b = allow (slot_verdict last_wall k Allowed) (leave_wall k b)
+withdraw_wall k b = allow (slot_verdict last_wall k (Ok tt)) (leave_wall k b)
 
 -- ---- an ask changes nothing
 
 abbrev pub indices_at : ℕ → Book → Step
 indices_at j b =
     from_used (get_or b.receivers j none) (λ x.
-    tell (Levels (lden_of x.sums.day x.sums.evening x.sums.night) (lnight_of x.sums.night)))
+    tell (Ok (Levels (lden_of x.sums.day x.sums.evening x.sums.night) (lnight_of x.sums.night))))
 
 unfoldable pub ask_receiver : ℕ → Book → Step
-ask_receiver j b = allow (slot_verdict last_receiver j Allowed) (indices_at j b)
+ask_receiver j b = allow (slot_verdict last_receiver j (Ok tt)) (indices_at j b)
 
 -- ---- on bytes
 
 -- what is answered, and the store at exit
 abbrev pub told : List ℕ → Step → Answer × List ℕ
-told s (refuse r) = (Refused r, s)
+told s (refuse r) = (Err r, s)
 told s (tell a) = (a, s)
-told s (change b) = (Done, book_bytes b)
+told s (change b) = (Ok Done, book_bytes b)
 
 -- damage is looked for before all else
 unfoldable pub on_store : (Book → Step) → List ℕ → Answer × List ℕ
-on_store f s = cond (damaged s) (Refused Damaged, s) (told s (f (book_of s)))
+on_store f s = cond (damaged s) (Err Damaged, s) (told s (f (book_of s)))
 
 -- clear refuses only a store of the wrong length
 unfoldable pub clear_store : List ℕ → Answer × List ℕ
-clear_store s = cond (eqb (length s) store_length) (Done, cleared_bytes) (Refused Damaged, s)
+clear_store s = cond (eqb (length s) store_length) (Ok Done, cleared_bytes) (Err Damaged, s)

@@ -5,10 +5,12 @@
 use answer::Refusal;
 use index::Index;
 
-// What a call answers: done, the two indices of a receiver (L_DEN, then L_Night), or a refusal.
+// What a call that is not refused answers: done, or the two indices of a receiver (L_DEN, then L_Night).
 #[derive(Clone, Copy)]
-pub enum Answer {
+pub enum Reply {
     Done,
     Levels(Index, Index),
-    Refused(Refusal),
 }
+
+// What a call answers.
+pub type Answer = Result<Reply, Refusal>;

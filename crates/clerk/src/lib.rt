@@ -6,19 +6,18 @@ ghost use Rattle.std.specs.Prelude.{◌≡◌};
 ghost use Rattle.service.specs.Service.{done_to};
 
 use answer::Refusal;
-pub use service::{Deed, Outcome};
+pub use service::{Deed, Outcome, Report};
 
 // Does the record at the front of a job to a store.
 pub fn apply(store: &mut [u8], job: &[u8]) -> Deed
     ensures { (result, store.new) ≡ done_to job.now store.old }
 {
-    let steps = level::table::steps();
-    if store::damaged(&steps, store) {
+    if store::damaged(store) {
         let extent = codec::extent(job);
         return Deed {
-            outcome: Outcome::Refused(Refusal::Damaged),
+            outcome: Err(Refusal::Damaged),
             extent,
         };
     }
-    service::serve(&steps, store, job)
+    service::serve(store, job)
 }

@@ -10,5 +10,5 @@ extent_settled l a = settled _ _
 read_settled : SettlesResult proofs.read.Reads.Post
 read_settled l a = settled _ _
 
-write_settled : SettlesBoth (λ l a e. e.1.1.1.0.now) proofs.write.Reads.Post
+write_settled : SettlesBoth (λ l a e. e.1.1.0.now) proofs.write.Reads.Post
 write_settled l a = settled _ _

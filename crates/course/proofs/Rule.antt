@@ -7,15 +7,11 @@ use native.Mathlib.Nat.{mul-le-mul}
 use native.Mathlib.Decide.{dec_lt}
 use native.Mathlib.Omega.{arith}
 use lib.Dec.{ltb}
-use borrow.Author.Tests.{ltb-true, ltb-false, lt-ltb}
+use Rattle.std.proofs.lemmas.Bool.{ltb-true, ltb-false, lt-ltb, and_parts}
 use Rattle.course.specs.declared.Piece.{Piece}
 use Rattle.course.specs.declared.Ends.{Ends}
 use Rattle.course.specs.Course.{square, cut_above, length_of, one_piece, first_half, second_half, long, cut, pieces_between, Fits, Every, Promises}
 use Rattle.course.proofs.Halves.{first_short, second_short}
-
-and_left : (a b : Bool) → (a && b) ≡ true → a ≡ true
-and_left true b h = refl
-and_left false b h = h
 
 and_right : (a b : Bool) → a ≡ true → (a && b) ≡ false → b ≡ false
 and_right true b h e = e
@@ -24,7 +20,7 @@ and_right false b h e = absurd (let z : ◌≡◌ {A = ℕ} 0 1 = cc in omega ar
 module _ (far : Piece → ℕ) where
   pub long_above : (e : Ends) → long far e ≡ true → cut_above < length_of e
   unfolding long
-  long_above e h = ltb-true cut_above (length_of e) (and_left (ltb cut_above (length_of e)) _ h)
+  long_above e h = ltb-true cut_above (length_of e) (and_parts (ltb cut_above (length_of e)) _ h).0
 
   pub first_falls : (e : Ends) → long far e ≡ true → length_of (first_half e) < length_of e
   first_falls e h = omega (arith, first_short e, long_above e h)

@@ -4,7 +4,6 @@ use Rattle.std.specs.Prelude.{ℕ, zero, suc, ◌+◌, ◌-◌, ◌*◌, ◌/◌
 use Rattle.root.specs.Root.{root_of}
 use Rattle.course.specs.declared.Piece.{Piece}
 use Rattle.course.specs.declared.Ends.{Ends}
-use Rattle.course.specs.declared.Lengths.{Lengths}
 use Rattle.course.specs.declared.Course.{Course}
 use Rattle.course.specs.declared.Course.TheVariants.{Uncut, Between}
 
@@ -29,8 +28,8 @@ mean a b = (a + b) / 2
 unfoldable pub length_of : Ends → ℕ
 length_of e = root_of (plan_between e.x1 e.y1 e.x2 e.y2)
 
-abbrev pub lengths_of : Ends → Ends → Lengths
-lengths_of a b = record { first = length_of a; second = length_of b }
+abbrev pub lengths_of : Ends → Ends → ℕ × ℕ
+lengths_of a b = (length_of a, length_of b)
 
 -- all of it as one piece
 unfoldable pub one_piece : Ends → Piece

@@ -3,7 +3,7 @@
 #![tactic(auto)]
 
 ghost use Rattle.std.specs.Prelude.{◌≡◌, ◌^◌, ◌<◌, ◌≤◌};
-ghost use Rattle.course.specs.Course.{apart, mean, plan_between, length_of, lengths_of, one_piece, whole_of, first_half, second_half, too_long, Mapped, Drawn};
+ghost use Rattle.course.specs.Course.{mean, plan_between, length_of, lengths_of, one_piece, whole_of, first_half, second_half, too_long, Mapped, Drawn};
 
 // What is no longer is not cut, in cm.
 const CUT_ABOVE: u32 = 250;
@@ -17,6 +17,7 @@ pub struct Piece {
 }
 
 // A road by its first end and its second.
+// By hand: that 24 bits hold them (`Mapped`) is asked of each call, since ends are read before they are judged.
 #[derive(Clone, Copy)]
 pub struct Ends {
     pub x1: u32,
@@ -32,24 +33,8 @@ pub enum Course {
     Between(Ends),
 }
 
-// The lengths of two roads.
-#[derive(Clone, Copy)]
-pub struct Lengths {
-    pub first: u32,
-    pub second: u32,
-}
-
-// How far two numbers are apart.
-fn apart(a: u32, b: u32) -> u64
-    ensures { result ≡ apart a b }
-{
-    if a < b {
-        return (b - a) as u64;
-    }
-    (a - b) as u64
-}
-
 // The mean of two coordinates, down.
+// By hand: the library has a midpoint of floats alone.
 fn mean(a: u32, b: u32) -> u32
     requires { (a < 2 ^ 24) × (b < 2 ^ 24) }
     ensures { result ≡ mean a b }
@@ -62,11 +47,19 @@ pub fn plan_between(x1: u32, y1: u32, x2: u32, y2: u32) -> u64
     requires { (x1 < 2 ^ 24) × (y1 < 2 ^ 24) × (x2 < 2 ^ 24) × (y2 < 2 ^ 24) }
     ensures { result ≡ plan_between x1 y1 x2 y2 }
 {
-    let dx = apart(x1, x2);
-    let dy = apart(y1, y2);
+    let dx = u64::from(x1.abs_diff(x2));
+    let dy = u64::from(y1.abs_diff(y2));
     let across = dx * dx;
     let along = dy * dy;
     across + along
+}
+
+// The squared distance of the two ends of a road.
+fn squared(e: Ends) -> u64
+    requires { Mapped e }
+    ensures { result ≡ plan_between e.x1 e.y1 e.x2 e.y2 }
+{
+    plan_between(e.x1, e.y1, e.x2, e.y2)
 }
 
 // The length of a road between two ends.
@@ -74,28 +67,25 @@ pub fn length(e: Ends) -> u32
     requires { Mapped e }
     ensures { result ≡ length_of e }
 {
-    let square = plan_between(e.x1, e.y1, e.x2, e.y2);
-    let root = root::root(square);
+    let root = root::root(squared(e));
     root as u32
 }
 
 // The lengths of two roads, whose roots are worked out side by side.
-pub fn lengths_of(a: Ends, b: Ends) -> Lengths
+pub fn lengths_of(a: Ends, b: Ends) -> (u32, u32)
     requires { Mapped a × Mapped b }
     ensures { result ≡ lengths_of a b }
 {
-    let p = plan_between(a.x1, a.y1, a.x2, a.y2);
-    let q = plan_between(b.x1, b.y1, b.x2, b.y2);
-    if p <= q {
-        let lines = root::last_lines(p, q);
-        let first = lines.near.root as u32;
-        let second = lines.far.root as u32;
-        return Lengths { first, second };
-    }
-    let lines = root::last_lines(q, p);
-    let first = lines.far.root as u32;
-    let second = lines.near.root as u32;
-    Lengths { first, second }
+    let (first, second) = root::roots(squared(a), squared(b));
+    (first as u32, second as u32)
+}
+
+// The middle of a road between two ends.
+fn middle(e: Ends) -> (u32, u32)
+    requires { Mapped e }
+    ensures { result ≡ (mean e.x1 e.x2, mean e.y1 e.y2) }
+{
+    (mean(e.x1, e.x2), mean(e.y1, e.y2))
 }
 
 // All of it as one piece, by its length.
@@ -103,8 +93,7 @@ pub fn whole(e: Ends, length: u32) -> Piece
     requires { Mapped e × (length ≡ length_of e) }
     ensures { result ≡ one_piece e }
 {
-    let x = mean(e.x1, e.x2);
-    let y = mean(e.y1, e.y2);
+    let (x, y) = middle(e);
     Piece { x, y, length }
 }
 
@@ -124,14 +113,8 @@ pub fn first_half(e: Ends) -> Ends
     requires { Mapped e }
     ensures { result ≡ first_half e }
 {
-    let x = mean(e.x1, e.x2);
-    let y = mean(e.y1, e.y2);
-    Ends {
-        x1: e.x1,
-        y1: e.y1,
-        x2: x,
-        y2: y,
-    }
+    let (x2, y2) = middle(e);
+    Ends { x2, y2, ..e }
 }
 
 // The half from the middle to the second end.
@@ -139,14 +122,8 @@ pub fn second_half(e: Ends) -> Ends
     requires { Mapped e }
     ensures { result ≡ second_half e }
 {
-    let x = mean(e.x1, e.x2);
-    let y = mean(e.y1, e.y2);
-    Ends {
-        x1: x,
-        y1: y,
-        x2: e.x2,
-        y2: e.y2,
-    }
+    let (x1, y1) = middle(e);
+    Ends { x1, y1, ..e }
 }
 
 // Whether a road of length l is to be cut at the squared distance q.
@@ -154,7 +131,7 @@ pub fn too_long(l: u32, q: u64) -> bool
     requires { l ≤ 2 ^ 25 }
     ensures { result ≡ too_long l q }
 {
-    let long = l as u64;
+    let long = u64::from(l);
     let square = long * long;
     (CUT_ABOVE < l) & (q < 4 * square)
 }

@@ -1,6 +1,7 @@
 -- Laws of daily figures: the numbers of table 2, the counts that they make, and the verdict of a road by its daily figure.
 -- Assumes nothing.
-use Prim.Native.Nat.{ℕ, zero, suc, ◌+◌, ◌*◌, ◌^◌, ◌≤◌, ◌<◌}
+use Rattle.std.specs.Prelude.{Ok, Err}
+use Prim.Native.Nat.{ℕ, zero, suc, ◌*◌, ◌^◌, ◌≤◌, ◌<◌}
 use mathlib.Core.Path.{◌≡◌, refl, sym, ap, ◌∙◌, subst⁻¹}
 use mathlib.Core.List.{List, [], ◌∷◌, ◌++◌}
 use native.Mathlib.Omega.{arith}
@@ -14,8 +15,7 @@ use Rattle.layout.proofs.Bounds.{inside_at, all_inside, inside_within}
 use Rattle.answer.specs.declared.Refusal.TheVariants.{Field}
 use Rattle.course.specs.declared.Course.{Course}
 use Rattle.road.specs.declared.Source.{Source}
-use Rattle.road.specs.declared.Verdict.{Verdict}
-use Rattle.road.specs.declared.Verdict.TheVariants.{Allowed, Refused}
+use Rattle.road.specs.Results.{Verdict}
 use Rattle.road.specs.Fields.{road_table, traffic_table, values_by, bits_by, slot_bits_by, least_by, most_by, number_at, Fit}
 use Rattle.road.specs.Judge.{outside_by, unless_outside, course_verdict, rest_verdict, source_verdict}
 use Rattle.road.proofs.Bounds.{times}
@@ -99,11 +99,6 @@ module _ (v : List ℕ) (w : Within daily_bits v) where
 
 -- ---- the two fields
 
-pub number_at_lem : (i : ℕ) → i < length daily_table → 14 + i ≡ number_at daily_table i
-number_at_lem zero h = refl
-number_at_lem (suc zero) h = refl
-number_at_lem (suc (suc i)) h = absurd (omega arith)
-
 pub inside_figured : (d : Daily) → length daily_table ≤ outside_by daily_table d → Figured d
 inside_figured d h =
     let b = inside_at (least_by daily_table d) (most_by daily_table d) (values_by daily_table d) in
@@ -112,7 +107,7 @@ inside_figured d h =
 -- ---- what is promised
 
 road_named : (c : Course) (d : Daily) (s : Source) → outside_by road_table s < length road_table
-    → daily_verdict c d s ≡ course_verdict c (Refused (Field (number_at road_table (outside_by road_table s))))
+    → daily_verdict c d s ≡ course_verdict c (Err (Field (number_at road_table (outside_by road_table s))))
 unfolding daily_verdict
 road_named c d s h = ap (course_verdict c) (sym (outside road_table s (unless_outside daily_table d (rest_verdict (counted c d s))) (outside_by road_table s) refl h))
 
@@ -142,7 +137,7 @@ promises = record { road_named = road_named; same_verdict = same_verdict; counts
 -- ---- what else a verdict tells
 
 -- an allowed road with its daily figure fits a record
-pub daily_within : (c : Course) (d : Daily) (s : Source) → daily_verdict c d s ≡ Allowed
+pub daily_within : (c : Course) (d : Daily) (s : Source) → daily_verdict c d s ≡ Ok tt
     → Within daily_bits (daily_fields d s)
 unfolding daily_verdict
 daily_within c d s e =

@@ -1,11 +1,10 @@
 -- Traffic by the daily figure (METHOD 4): the counts that a class of road and its vehicles a day stand for, by VBUS table 2, and which
 -- of them are allowed.
-use Rattle.std.specs.Prelude.{ℕ, suc, ◌*◌, ◌-◌, ◌≤◌, ◌<◌, ◌≡◌, List, [], ◌∷◌, ◌++◌, length, get_or}
+use Rattle.std.specs.Prelude.{ℕ, suc, ◌*◌, ◌-◌, ◌≤◌, ◌<◌, ◌≡◌, List, [], ◌∷◌, ◌++◌, length, get_or, Err}
 use Rattle.answer.specs.declared.Refusal.TheVariants.{Field}
 use Rattle.course.specs.declared.Course.{Course}
 use Rattle.road.specs.declared.Source.{Source}
-use Rattle.road.specs.declared.Verdict.{Verdict}
-use Rattle.road.specs.declared.Verdict.TheVariants.{Refused}
+use Rattle.road.specs.Results.{Verdict}
 use Rattle.road.specs.Fields.{Row, row, road_table, traffic_table, source_of, values_by, bits_by, number_at}
 use Rattle.road.specs.Judge.{outside_by, unless_outside, course_verdict, rest_verdict, source_verdict}
 use Rattle.daily.specs.declared.Daily.{Daily}
@@ -82,7 +81,7 @@ Figured d = (d.class ≤ last_class) × ((1 ≤ d.dtv) × (d.dtv ≤ busiest))
 pub record Promises : Type 0 where
   -- on a course that is allowed, a field of the road that is not is named, whatever class and vehicles a day are
   pub road_named : (c : Course) (d : Daily) (s : Source) → outside_by road_table s < length road_table
-      → daily_verdict c d s ≡ course_verdict c (Refused (Field (number_at road_table (outside_by road_table s))))
+      → daily_verdict c d s ≡ course_verdict c (Err (Field (number_at road_table (outside_by road_table s))))
   -- where these two are allowed, the road is judged as the source that they stand for
   pub same_verdict : (c : Course) (d : Daily) (s : Source) → Figured d → daily_verdict c d s ≡ source_verdict (counted c d s)
   -- whose counts are always allowed: refusal 5 names the class by 14 and the vehicles a day by 15, and no count

@@ -3,14 +3,13 @@
 #![tactic(auto)]
 
 ghost use Rattle.std.specs.Prelude.{◌≡◌, [], ◌++◌, ◌*◌, ◌^◌, ◌≤◌, ◌<◌, length, get_or, drop};
-ghost use Rattle.level.specs.Table.{table};
 ghost use Rattle.layout.specs.Layout.{Within};
 ghost use Rattle.road.specs.Fields.{traffic_table, values_by, source_of, traffic_of};
 ghost use Rattle.road.specs.Judge.{unless_outside, rest_verdict};
 ghost use Rattle.daily.specs.Daily as spec;
 
-use answer::Refusal;
 use course::Course;
+use fields::Row;
 use road::{Source, Traffic, Verdict};
 
 // A class of road, the row of table 2 from 0 on, and how many vehicles the road has a day (DTV).
@@ -23,22 +22,28 @@ pub struct Daily {
 // How many fields these are. They follow those of the road.
 pub const DAILY_ROWS: usize = 2;
 
-// Their bits in a record.
-pub const CLASS_BITS: u8 = 2;
-
-pub const DTV_BITS: u8 = 18;
-
-// The number of the first, and the least and the most that each may be.
-const FIRST_NUMBER: u16 = 14;
-
-const LEAST: [u64; DAILY_ROWS] = [0, 1];
-
-const MOST: [u64; DAILY_ROWS] = [CLASSES as u64 - 1, 160000];
+// The class and the vehicles a day, as rows like those of the crate fields.
+pub const DAILY: [Row; DAILY_ROWS] = [
+    Row {
+        number: 14,
+        bits: 2,
+        bytes: 1,
+        least: 0,
+        most: CLASSES as u64 - 1,
+    },
+    Row {
+        number: 15,
+        bits: 18,
+        bytes: 3,
+        least: 1,
+        most: 160000,
+    },
+];
 
 // Table 2: by day, in the evening and at night M in thousandths of the vehicles a day, and p in tenths of a percent.
 const CLASSES: usize = 4;
 
-const TABLE_2: [[u32; 6]; CLASSES] = [
+static TABLE_2: [[u32; 6]; CLASSES] = [
     // federal motorways
     [62, 250, 42, 350, 14, 450],
     // federal roads
@@ -54,8 +59,7 @@ fn row_of(class: u8) -> [u32; 6]
     requires { class ≤ spec.last_class }
     ensures { result ≡ get_or spec.table_two class [] }
 {
-    let table = TABLE_2;
-    table[class as usize]
+    TABLE_2[usize::from(class)]
 }
 
 // The traffic of a period, from the vehicles a day and two numbers of table 2.
@@ -63,9 +67,8 @@ fn period(dtv: u32, m: u32, p: u32) -> Traffic
     requires { (dtv < 2 ^ 18) × (m ≤ 62) × (p ≤ 1000) }
     ensures { result ≡ traffic_of (dtv * m) p }
 {
-    let vehicles = dtv * m;
     Traffic {
-        m: vehicles,
+        m: dtv * m,
         p: p as u16,
     }
 }
@@ -82,16 +85,8 @@ pub fn counted(course: Course, d: Daily, s: Source) -> Source
     let traffic = [day, evening, night];
     Source {
         course,
-        lanes: s.lanes,
-        car: s.car,
-        truck: s.truck,
-        surface: s.surface,
-        gradient: s.gradient,
-        reflection: s.reflection,
-        walls: s.walls,
-        height: s.height,
-        spacing: s.spacing,
         traffic,
+        ..s
     }
 }
 
@@ -118,34 +113,24 @@ pub fn values(d: Daily, s: Source) -> [u64; fields::SOURCE_ROWS]
     ensures { result ≡ spec.daily_fields d s ++ drop (length spec.daily_table) (values_by traffic_table s) }
 {
     let mut values = fields::source_values(s);
-    values[fields::ROAD_ROWS] = d.class as u64;
-    values[fields::ROAD_ROWS + 1] = d.dtv as u64;
+    values[fields::ROAD_ROWS] = u64::from(d.class);
+    values[fields::ROAD_ROWS + 1] = u64::from(d.dtv);
     values
 }
 
 // Whether class and vehicles a day, and then the source that they stand for, but for its course, are allowed.
-fn judge_daily(steps: &[u32; 1000], course: Course, d: Daily, s: Source) -> Verdict
-    requires { steps.now ≡ table }
+fn judge_daily(course: Course, d: Daily, s: Source) -> Verdict
     ensures { result ≡ unless_outside spec.daily_table d (rest_verdict (spec.counted course d s)) }
 {
-    let values = [d.class as u64, d.dtv as u64];
-    let least = LEAST;
-    let most = MOST;
-    let at = layout::first_outside(&least, &most, &values);
-    if at < DAILY_ROWS {
-        let number = FIRST_NUMBER + at as u16;
-        return Verdict::Refused(Refusal::Field(number));
-    }
-    judge::judge_rest(steps, counted(course, d, s))
+    judge::judged(&DAILY, &[u64::from(d.class), u64::from(d.dtv)])?;
+    judge::judge_rest(counted(course, d, s))
 }
 
 // Whether a road on a course with its daily figure is allowed.
-pub fn judge(steps: &[u32; 1000], course: Course, d: Daily, s: Source) -> Verdict
-    requires { steps.now ≡ table }
+pub fn judge(course: Course, d: Daily, s: Source) -> Verdict
     ensures { result ≡ spec.daily_verdict course d s }
 {
-    judge::judge_course(
-        course,
-        judge::judge_road(s, judge_daily(steps, course, d, s)),
-    )
+    judge::judge_course(course)?;
+    judge::judge_road(s)?;
+    judge_daily(course, d, s)
 }

@@ -4,9 +4,6 @@ use Rattle.answer.specs.Settled.{SettlesResult}
 use Rattle.answer.proofs.Settled.{settled}
 use Rattle.emission.proofs
 
-within_settled : SettlesResult proofs.within.Reads.Post
-within_settled l a = settled _ _
-
 traffic_settled : SettlesResult proofs.traffic.Reads.Post
 traffic_settled l a = settled _ _
 

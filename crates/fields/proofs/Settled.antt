@@ -37,26 +37,8 @@ wall_values_settled l a = settled _ _
 wall_of_settled : SettlesResult proofs.wall_of.Reads.Post
 wall_of_settled l a = settled _ _
 
-piece_rows_settled : SettlesResult proofs.piece_rows.Reads.Post
-piece_rows_settled l a = settled _ _
-
-ends_rows_settled : SettlesResult proofs.ends_rows.Reads.Post
-ends_rows_settled l a = settled _ _
-
 source_rows_settled : SettlesResult proofs.source_rows.Reads.Post
 source_rows_settled l a = settled _ _
 
-receiver_rows_settled : SettlesResult proofs.receiver_rows.Reads.Post
-receiver_rows_settled l a = settled _ _
-
 wall_rows_settled : SettlesResult proofs.wall_rows.Reads.Post
 wall_rows_settled l a = settled _ _
-
-source_least_settled : SettlesResult proofs.source_least.Reads.Post
-source_least_settled l a = settled _ _
-
-source_most_settled : SettlesResult proofs.source_most.Reads.Post
-source_most_settled l a = settled _ _
-
-wall_least_settled : SettlesResult proofs.wall_least.Reads.Post
-wall_least_settled l a = settled _ _

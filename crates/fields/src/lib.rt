@@ -4,9 +4,10 @@
 
 pub mod limits;
 
-ghost use Rattle.std.specs.Prelude.{◌≡◌, cond, [], ◌+◌, ◌^◌, ◌≤◌, ◌<◌, length, get_or, drop};
+ghost use Rattle.std.specs.Prelude.{◌≡◌, ◌+◌, ◌^◌, ◌≤◌, ◌<◌, length, get_or, drop};
 ghost use Rattle.screen.specs.Screen.{wall_of};
-ghost use Rattle.road.specs.Fields.{piece_table, ends_table, road_table, source_table, receiver_table, wall_table, traffic_of, piece_of, ends_of, source_of, road_of, receiver_of, values_by, least_by, most_by, slot_bits_by, rows_by, plain, plain_wall, Fit};
+ghost use Rattle.road.specs.Fields.{piece_table, ends_table, road_table, source_table, receiver_table, wall_table, traffic_of, piece_of, ends_of, source_of, road_of, receiver_of, values_by, slot_bits_by, Fit};
+ghost use Rattle.fields.specs.Rows.{rows_of};
 
 use course::{Course, Ends, Piece};
 use road::{Receiver, Source, Traffic};
@@ -27,156 +28,85 @@ pub const RECEIVER_ROWS: usize = 3;
 // And a wall.
 pub const WALL_ROWS: usize = 5;
 
-// The columns of a row: the field's number, its bits in a record, its bytes in a slot, the least and the most that it may be.
-pub const NUMBER: usize = 0;
+// What is said of a field: its number, its bits in a record, its bytes in a slot, the least and the most that it may be.
+#[derive(Clone, Copy)]
+pub struct Row {
+    pub number: u16,
+    pub bits: u8,
+    pub bytes: u8,
+    pub least: u64,
+    pub most: u64,
+}
 
-pub const BITS: usize = 1;
-
-pub const BYTES: usize = 2;
-
-const LEAST: usize = 3;
-
-const MOST: usize = 4;
+// A row in that order, so that a table has a line for each.
+macro_rules! row {
+    ($number:expr, $bits:expr, $bytes:expr, $least:expr, $most:expr) => {
+        Row {
+            number: $number,
+            bits: $bits,
+            bytes: $bytes,
+            least: $least,
+            most: $most,
+        }
+    };
+}
 
 // The rows of a piece.
-pub const PIECE: [[u64; 5]; PIECE_ROWS] = [
+pub const PIECE: [Row; PIECE_ROWS] = [
     // x, y, length
-    [2, 24, 3, 0, limits::COORDINATE],
-    [3, 24, 3, 0, limits::COORDINATE],
-    [4, 17, 3, 1, limits::LONGEST],
+    row!(2, 24, 3, 0, limits::COORDINATE),
+    row!(3, 24, 3, 0, limits::COORDINATE),
+    row!(4, 17, 3, 1, limits::LONGEST),
 ];
 
 // The rows of two ends.
-pub const ENDS: [[u64; 5]; ENDS_ROWS] = [
+pub const ENDS: [Row; ENDS_ROWS] = [
     // x, y of the first, x, y of the second
-    [2, 24, 3, 0, limits::COORDINATE],
-    [3, 24, 3, 0, limits::COORDINATE],
-    [2, 24, 3, 0, limits::COORDINATE],
-    [3, 24, 3, 0, limits::COORDINATE],
+    row!(2, 24, 3, 0, limits::COORDINATE),
+    row!(3, 24, 3, 0, limits::COORDINATE),
+    row!(2, 24, 3, 0, limits::COORDINATE),
+    row!(3, 24, 3, 0, limits::COORDINATE),
 ];
 
 // The rows of a source after its course. The limits of the gradient are for a road that rises, those of height and spacing for walls
 // that are there.
-pub const SOURCE: [[u64; 5]; SOURCE_ROWS] = [
+pub const SOURCE: [Row; SOURCE_ROWS] = [
     // lanes, cars, trucks, surface, gradient, reflection
-    [5, 1, 1, 0, limits::LAST_LANES],
-    [6, 8, 1, 1, limits::FASTEST],
-    [7, 8, 1, 1, limits::FASTEST],
-    [8, 4, 1, 1, limits::LAST_SURFACE],
-    [9, 8, 1, 0, limits::STEEPEST],
-    [10, 3, 1, 0, limits::LAST_REFLECTION],
+    row!(5, 1, 1, 0, limits::LAST_LANES),
+    row!(6, 8, 1, 1, limits::FASTEST),
+    row!(7, 8, 1, 1, limits::FASTEST),
+    row!(8, 4, 1, 1, limits::LAST_SURFACE),
+    row!(9, 8, 1, 0, limits::STEEPEST),
+    row!(10, 3, 1, 0, limits::LAST_REFLECTION),
     // walls, their height, their spacing
-    [11, 2, 1, 0, limits::LAST_WALLS],
-    [12, 12, 2, 1, limits::HIGHEST_WALL],
-    [13, 14, 2, 1, limits::WIDEST_SPACING],
+    row!(11, 2, 1, 0, limits::LAST_WALLS),
+    row!(12, 12, 2, 1, limits::HIGHEST_WALL),
+    row!(13, 14, 2, 1, limits::WIDEST_SPACING),
     // M and p by day, in the evening, at night
-    [14, 24, 3, 0, limits::MOST_VEHICLES],
-    [15, 10, 2, 0, limits::ALL_TRUCKS],
-    [16, 24, 3, 0, limits::MOST_VEHICLES],
-    [17, 10, 2, 0, limits::ALL_TRUCKS],
-    [18, 24, 3, 0, limits::MOST_VEHICLES],
-    [19, 10, 2, 0, limits::ALL_TRUCKS],
+    row!(14, 24, 3, 0, limits::MOST_VEHICLES),
+    row!(15, 10, 2, 0, limits::ALL_TRUCKS),
+    row!(16, 24, 3, 0, limits::MOST_VEHICLES),
+    row!(17, 10, 2, 0, limits::ALL_TRUCKS),
+    row!(18, 24, 3, 0, limits::MOST_VEHICLES),
+    row!(19, 10, 2, 0, limits::ALL_TRUCKS),
 ];
 
 // The rows of a receiver.
-pub const RECEIVER: [[u64; 5]; RECEIVER_ROWS] = [
+pub const RECEIVER: [Row; RECEIVER_ROWS] = [
     // x, y, height
-    [2, 24, 3, 0, limits::COORDINATE],
-    [3, 24, 3, 0, limits::COORDINATE],
-    [4, 9, 2, limits::LOWEST_RECEIVER, limits::HIGHEST_RECEIVER],
+    row!(2, 24, 3, 0, limits::COORDINATE),
+    row!(3, 24, 3, 0, limits::COORDINATE),
+    row!(4, 9, 2, limits::LOWEST_RECEIVER, limits::HIGHEST_RECEIVER),
 ];
 
 // The rows of a wall. The limits of the second x are for ends that are not one point.
-pub const WALL: [[u64; 5]; WALL_ROWS] = [
+pub const WALL: [Row; WALL_ROWS] = [
     // x, y of the first end, x, y of the second, height
-    [2, 24, 3, 0, limits::COORDINATE],
-    [3, 24, 3, 0, limits::COORDINATE],
-    [4, 24, 3, 0, limits::COORDINATE],
-    [5, 24, 3, 0, limits::COORDINATE],
-    [6, 11, 2, 1, limits::HIGHEST_NOISE_WALL],
-];
-
-// The two columns of limits, of a piece, of two ends, of a receiver, of a wall and of a source.
-pub const PIECE_LEAST: [u64; PIECE_ROWS] = [PIECE[0][LEAST], PIECE[1][LEAST], PIECE[2][LEAST]];
-
-pub const PIECE_MOST: [u64; PIECE_ROWS] = [PIECE[0][MOST], PIECE[1][MOST], PIECE[2][MOST]];
-
-pub const ENDS_LEAST: [u64; ENDS_ROWS] = [
-    ENDS[0][LEAST],
-    ENDS[1][LEAST],
-    ENDS[2][LEAST],
-    ENDS[3][LEAST],
-];
-
-pub const ENDS_MOST: [u64; ENDS_ROWS] = [
-    ENDS[0][MOST],
-    ENDS[1][MOST],
-    ENDS[2][MOST],
-    ENDS[3][MOST],
-];
-
-pub const RECEIVER_LEAST: [u64; RECEIVER_ROWS] = [
-    RECEIVER[0][LEAST],
-    RECEIVER[1][LEAST],
-    RECEIVER[2][LEAST],
-];
-
-pub const RECEIVER_MOST: [u64; RECEIVER_ROWS] = [
-    RECEIVER[0][MOST],
-    RECEIVER[1][MOST],
-    RECEIVER[2][MOST],
-];
-
-const WALL_LEAST: [u64; WALL_ROWS] = [
-    WALL[0][LEAST],
-    WALL[1][LEAST],
-    WALL[2][LEAST],
-    WALL[3][LEAST],
-    WALL[4][LEAST],
-];
-
-pub const WALL_MOST: [u64; WALL_ROWS] = [
-    WALL[0][MOST],
-    WALL[1][MOST],
-    WALL[2][MOST],
-    WALL[3][MOST],
-    WALL[4][MOST],
-];
-
-const SOURCE_LEAST: [u64; SOURCE_ROWS] = [
-    SOURCE[0][LEAST],
-    SOURCE[1][LEAST],
-    SOURCE[2][LEAST],
-    SOURCE[3][LEAST],
-    SOURCE[4][LEAST],
-    SOURCE[5][LEAST],
-    SOURCE[6][LEAST],
-    SOURCE[7][LEAST],
-    SOURCE[8][LEAST],
-    SOURCE[9][LEAST],
-    SOURCE[10][LEAST],
-    SOURCE[11][LEAST],
-    SOURCE[12][LEAST],
-    SOURCE[13][LEAST],
-    SOURCE[14][LEAST],
-];
-
-const SOURCE_MOST: [u64; SOURCE_ROWS] = [
-    SOURCE[0][MOST],
-    SOURCE[1][MOST],
-    SOURCE[2][MOST],
-    SOURCE[3][MOST],
-    SOURCE[4][MOST],
-    SOURCE[5][MOST],
-    SOURCE[6][MOST],
-    SOURCE[7][MOST],
-    SOURCE[8][MOST],
-    SOURCE[9][MOST],
-    SOURCE[10][MOST],
-    SOURCE[11][MOST],
-    SOURCE[12][MOST],
-    SOURCE[13][MOST],
-    SOURCE[14][MOST],
+    row!(2, 24, 3, 0, limits::COORDINATE),
+    row!(3, 24, 3, 0, limits::COORDINATE),
+    row!(4, 24, 3, 0, limits::COORDINATE),
+    row!(5, 24, 3, 0, limits::COORDINATE),
+    row!(6, 11, 2, 1, limits::HIGHEST_NOISE_WALL),
 ];
 
 // The rows whose limits depend on a field before them.
@@ -188,79 +118,79 @@ const HEIGHT: usize = 7;
 
 const SPACING: usize = 8;
 
-// The rows of a piece.
-pub fn piece_rows() -> [[u64; 5]; PIECE_ROWS]
-    ensures { result ≡ rows_by piece_table (piece_of []) }
+// The rows of a source, with the limits that hold for it.
+pub fn source_rows(s: Source) -> [Row; SOURCE_ROWS]
+    ensures { result ≡ rows_of source_table s }
 {
-    PIECE
+    let mut rows = SOURCE;
+    let falls = emission::SIGN <= s.gradient;
+    if falls {
+        rows[GRADIENT].least = limits::FLATTEST_FALL;
+        rows[GRADIENT].most = limits::STEEPEST_FALL;
+    }
+    let open = s.walls == 0;
+    if open {
+        rows[HEIGHT].least = 0;
+        rows[HEIGHT].most = 0;
+        rows[SPACING].least = 0;
+        rows[SPACING].most = 0;
+    }
+    rows
 }
 
-// The rows of two ends.
-pub fn ends_rows() -> [[u64; 5]; ENDS_ROWS]
-    ensures { result ≡ rows_by ends_table (ends_of []) }
+// The rows of a wall, with the limits that hold for it.
+pub fn wall_rows(w: Wall) -> [Row; WALL_ROWS]
+    ensures { result ≡ rows_of wall_table w }
 {
-    ENDS
-}
-
-// The rows of a source, with the limits of a road that rises between walls.
-pub fn source_rows() -> [[u64; 5]; SOURCE_ROWS]
-    ensures { result ≡ rows_by source_table plain }
-{
-    SOURCE
-}
-
-// The rows of a receiver.
-pub fn receiver_rows() -> [[u64; 5]; RECEIVER_ROWS]
-    ensures { result ≡ rows_by receiver_table (receiver_of []) }
-{
-    RECEIVER
-}
-
-// The rows of a wall, with the limits of one that has two ends.
-pub fn wall_rows() -> [[u64; 5]; WALL_ROWS]
-    ensures { result ≡ rows_by wall_table plain_wall }
-{
-    WALL
+    let mut rows = WALL;
+    let e = w.ends;
+    let point = e.x1 == e.x2 && e.y1 == e.y2;
+    if point {
+        rows[SECOND_X].least = limits::COORDINATE + 1;
+    }
+    rows
 }
 
 // The values of a piece.
 pub fn piece_values(p: Piece) -> [u64; PIECE_ROWS]
     ensures { result ≡ values_by piece_table p }
 {
-    [p.x as u64, p.y as u64, p.length as u64]
+    [u64::from(p.x), u64::from(p.y), u64::from(p.length)]
 }
 
 // The values of two ends.
 pub fn ends_values(e: Ends) -> [u64; ENDS_ROWS]
     ensures { result ≡ values_by ends_table e }
 {
-    [e.x1 as u64, e.y1 as u64, e.x2 as u64, e.y2 as u64]
+    [
+        u64::from(e.x1),
+        u64::from(e.y1),
+        u64::from(e.x2),
+        u64::from(e.y2),
+    ]
 }
 
 // The values of a source after its course.
 pub fn source_values(s: Source) -> [u64; SOURCE_ROWS]
     ensures { result ≡ values_by source_table s }
 {
-    let traffic = s.traffic;
-    let day = traffic[0];
-    let evening = traffic[1];
-    let night = traffic[2];
+    let [day, evening, night] = s.traffic;
     [
-        s.lanes as u64,
-        s.car as u64,
-        s.truck as u64,
-        s.surface as u64,
-        s.gradient as u64,
-        s.reflection as u64,
-        s.walls as u64,
-        s.height as u64,
-        s.spacing as u64,
-        day.m as u64,
-        day.p as u64,
-        evening.m as u64,
-        evening.p as u64,
-        night.m as u64,
-        night.p as u64,
+        u64::from(s.lanes),
+        u64::from(s.car),
+        u64::from(s.truck),
+        u64::from(s.surface),
+        u64::from(s.gradient),
+        u64::from(s.reflection),
+        u64::from(s.walls),
+        u64::from(s.height),
+        u64::from(s.spacing),
+        u64::from(day.m),
+        u64::from(day.p),
+        u64::from(evening.m),
+        u64::from(evening.p),
+        u64::from(night.m),
+        u64::from(night.p),
     ]
 }
 
@@ -268,7 +198,7 @@ pub fn source_values(s: Source) -> [u64; SOURCE_ROWS]
 pub fn receiver_values(r: Receiver) -> [u64; RECEIVER_ROWS]
     ensures { result ≡ values_by receiver_table r }
 {
-    [r.x as u64, r.y as u64, r.height as u64]
+    [u64::from(r.x), u64::from(r.y), u64::from(r.height)]
 }
 
 // The values of a wall.
@@ -277,24 +207,12 @@ pub fn wall_values(w: Wall) -> [u64; WALL_ROWS]
 {
     let e = w.ends;
     [
-        e.x1 as u64,
-        e.y1 as u64,
-        e.x2 as u64,
-        e.y2 as u64,
-        w.height as u64,
+        u64::from(e.x1),
+        u64::from(e.y1),
+        u64::from(e.x2),
+        u64::from(e.y2),
+        u64::from(w.height),
     ]
-}
-
-// The piece of the values at the front of v.
-fn piece_by(v: &[u64]) -> Piece
-    requires { (length piece_table ≤ length v.now) × Fit (slot_bits_by piece_table) 0 v.now }
-    ensures { result ≡ piece_of v.now }
-{
-    Piece {
-        x: v[0] as u32,
-        y: v[1] as u32,
-        length: v[2] as u32,
-    }
 }
 
 // The piece of the values from index at on.
@@ -302,19 +220,11 @@ pub fn piece_of(v: &[u64], at: usize) -> Piece
     requires { (at + length piece_table ≤ length v.now) × Fit (slot_bits_by piece_table) at v.now }
     ensures { result ≡ piece_of (drop at v.now) }
 {
-    piece_by(&v[at..])
-}
-
-// The two ends of the values at the front of v.
-fn ends_by(v: &[u64]) -> Ends
-    requires { (length ends_table ≤ length v.now) × Fit (slot_bits_by ends_table) 0 v.now }
-    ensures { result ≡ ends_of v.now }
-{
-    Ends {
-        x1: v[0] as u32,
-        y1: v[1] as u32,
-        x2: v[2] as u32,
-        y2: v[3] as u32,
+    let v = &v[at..];
+    Piece {
+        x: v[0] as u32,
+        y: v[1] as u32,
+        length: v[2] as u32,
     }
 }
 
@@ -323,7 +233,13 @@ pub fn ends_of(v: &[u64], at: usize) -> Ends
     requires { (at + length ends_table ≤ length v.now) × Fit (slot_bits_by ends_table) at v.now }
     ensures { result ≡ ends_of (drop at v.now) }
 {
-    ends_by(&v[at..])
+    let v = &v[at..];
+    Ends {
+        x1: v[0] as u32,
+        y1: v[1] as u32,
+        x2: v[2] as u32,
+        y2: v[3] as u32,
+    }
 }
 
 // The road on a course with the values at the front of v, without traffic.
@@ -331,8 +247,7 @@ pub fn road_of(course: Course, v: &[u64]) -> Source
     requires { (length road_table ≤ length v.now) × Fit (slot_bits_by road_table) 0 v.now }
     ensures { result ≡ road_of course v.now }
 {
-    let none = Traffic { m: 0, p: 0 };
-    let traffic = [none, none, none];
+    let traffic = [Traffic { m: 0, p: 0 }; 3];
     Source {
         course,
         lanes: v[0] as u8,
@@ -358,36 +273,19 @@ fn traffic_of(v: &[u64], at: usize) -> Traffic
     Traffic { m, p }
 }
 
-// The source on a course with the values at the front of v.
-fn source_by(course: Course, v: &[u64]) -> Source
-    requires { (length source_table ≤ length v.now) × Fit (slot_bits_by source_table) 0 v.now }
-    ensures { result ≡ source_of course v.now }
-{
-    let day = traffic_of(v, 9);
-    let evening = traffic_of(v, 11);
-    let night = traffic_of(v, 13);
-    let mut s = road_of(course, v);
-    s.traffic = [day, evening, night];
-    s
-}
-
 // The source on a course with the values from index at on.
 pub fn source_of(course: Course, v: &[u64], at: usize) -> Source
     requires { (at + length source_table ≤ length v.now) × Fit (slot_bits_by source_table) at v.now }
     ensures { result ≡ source_of course (drop at v.now) }
 {
-    source_by(course, &v[at..])
-}
-
-// The receiver of the values at the front of v.
-fn receiver_by(v: &[u64]) -> Receiver
-    requires { (length receiver_table ≤ length v.now) × Fit (slot_bits_by receiver_table) 0 v.now }
-    ensures { result ≡ receiver_of v.now }
-{
-    Receiver {
-        x: v[0] as u32,
-        y: v[1] as u32,
-        height: v[2] as u16,
+    let v = &v[at..];
+    let day = traffic_of(v, ROAD_ROWS);
+    let evening = traffic_of(v, ROAD_ROWS + 2);
+    let night = traffic_of(v, ROAD_ROWS + 4);
+    let traffic = [day, evening, night];
+    Source {
+        traffic,
+        ..road_of(course, v)
     }
 }
 
@@ -396,14 +294,20 @@ pub fn receiver_of(v: &[u64], at: usize) -> Receiver
     requires { (at + length receiver_table ≤ length v.now) × Fit (slot_bits_by receiver_table) at v.now }
     ensures { result ≡ receiver_of (drop at v.now) }
 {
-    receiver_by(&v[at..])
+    let v = &v[at..];
+    Receiver {
+        x: v[0] as u32,
+        y: v[1] as u32,
+        height: v[2] as u16,
+    }
 }
 
-// The wall of the values at the front of v.
-fn wall_by(v: &[u64]) -> Wall
-    requires { (length wall_table ≤ length v.now) × Fit (slot_bits_by wall_table) 0 v.now }
-    ensures { result ≡ wall_of v.now }
+// The wall of the values from index at on.
+pub fn wall_of(v: &[u64], at: usize) -> Wall
+    requires { (at + length wall_table ≤ length v.now) × Fit (slot_bits_by wall_table) at v.now }
+    ensures { result ≡ wall_of (drop at v.now) }
 {
+    let v = &v[at..];
     let ends = Ends {
         x1: v[0] as u32,
         y1: v[1] as u32,
@@ -412,73 +316,4 @@ fn wall_by(v: &[u64]) -> Wall
     };
     let height = v[4] as u16;
     Wall { ends, height }
-}
-
-// The wall of the values from index at on.
-pub fn wall_of(v: &[u64], at: usize) -> Wall
-    requires { (at + length wall_table ≤ length v.now) × Fit (slot_bits_by wall_table) at v.now }
-    ensures { result ≡ wall_of (drop at v.now) }
-{
-    wall_by(&v[at..])
-}
-
-// One of two numbers.
-fn either(first: bool, a: u64, b: u64) -> u64
-    ensures { result ≡ cond first a b }
-{
-    if first {
-        return a;
-    }
-    b
-}
-
-// The least that each field of a source may be.
-pub fn source_least(s: Source) -> [u64; SOURCE_ROWS]
-    ensures { result ≡ least_by source_table s }
-{
-    let gradient = either(
-        s.gradient < emission::SIGN,
-        SOURCE_LEAST[GRADIENT],
-        limits::FLATTEST_FALL,
-    );
-    let height = either(s.walls == 0, 0, SOURCE_LEAST[HEIGHT]);
-    let spacing = either(s.walls == 0, 0, SOURCE_LEAST[SPACING]);
-    let mut least = SOURCE_LEAST;
-    least[GRADIENT] = gradient;
-    least[HEIGHT] = height;
-    least[SPACING] = spacing;
-    least
-}
-
-// The most.
-pub fn source_most(s: Source) -> [u64; SOURCE_ROWS]
-    ensures { result ≡ most_by source_table s }
-{
-    let gradient = either(
-        s.gradient < emission::SIGN,
-        SOURCE_MOST[GRADIENT],
-        limits::STEEPEST_FALL,
-    );
-    let height = either(s.walls == 0, 0, SOURCE_MOST[HEIGHT]);
-    let spacing = either(s.walls == 0, 0, SOURCE_MOST[SPACING]);
-    let mut most = SOURCE_MOST;
-    most[GRADIENT] = gradient;
-    most[HEIGHT] = height;
-    most[SPACING] = spacing;
-    most
-}
-
-// The least that each field of a wall may be.
-pub fn wall_least(w: Wall) -> [u64; WALL_ROWS]
-    ensures { result ≡ least_by wall_table w }
-{
-    let e = w.ends;
-    let second = either(
-        (e.x1 == e.x2) & (e.y1 == e.y2),
-        limits::COORDINATE + 1,
-        WALL_LEAST[SECOND_X],
-    );
-    let mut least = WALL_LEAST;
-    least[SECOND_X] = second;
-    least
 }

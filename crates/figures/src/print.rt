@@ -12,17 +12,15 @@ pub fn text(rt: &HostRuntime, bytes: &[u8]) {
 // The name k of a list, one to a line.
 pub fn name(rt: &HostRuntime, names: &[u8], k: usize) {
     let mut left = k;
-    let mut i = 0;
-    while i < names.len() {
-        if names[i] == b'\n' {
+    for byte in names {
+        if *byte == b'\n' {
             if left == 0 {
                 return;
             }
             left -= 1;
         } else if left == 0 {
-            text(rt, &names[i..i + 1]);
+            text(rt, &[*byte]);
         }
-        i += 1;
     }
 }
 
@@ -35,19 +33,18 @@ pub fn number(rt: &HostRuntime, names: &[u8], k: usize, n: u64) {
 
 // A level, which may be below 0: what it adds less what it takes off.
 pub fn level(rt: &HostRuntime, names: &[u8], k: usize, t: Term) {
+    name(rt, names, k);
     if t.up < t.down {
-        name(rt, names, k);
-        number(rt, b"-", 0, (t.down - t.up) as u64);
-    } else {
-        number(rt, names, k, (t.up - t.down) as u64);
+        text(rt, b"-");
     }
+    number(rt, b"", 0, u64::from(t.up.abs_diff(t.down)));
 }
 
 // What is heard of an energy.
 pub fn heard(rt: &HostRuntime, names: &[u8], k: usize, h: Loudness) {
     match h {
-        Loudness::Quiet => word(rt, names, k, b"quiet\n"),
-        Loudness::Level(l) => number(rt, names, k, l as u64),
+        None => word(rt, names, k, b"quiet\n"),
+        Some(l) => number(rt, names, k, u64::from(l)),
     }
 }
 
@@ -60,12 +57,12 @@ pub fn word(rt: &HostRuntime, names: &[u8], k: usize, outcome: &[u8]) {
 // A refusal, by its number.
 pub fn refusal(rt: &HostRuntime, names: &[u8], k: usize, why: Refusal) {
     name(rt, names, k);
-    number(rt, b"refused ", 0, answer::number(why) as u64);
+    number(rt, b"refused ", 0, u64::from(answer::number(why)));
 }
 
 // A refusal, by its number and its place.
 pub fn refusal_at(rt: &HostRuntime, names: &[u8], k: usize, why: Refusal) {
     word(rt, names, k, b"refused ");
-    let _ = rt.print(answer::number(why) as u64);
-    number(rt, b" at ", 0, answer::place(why) as u64);
+    let _ = rt.print(u64::from(answer::number(why)));
+    number(rt, b" at ", 0, u64::from(answer::place(why)));
 }

@@ -1,27 +1,27 @@
 // The 25 m case and its limits through the calls of the book, on a store that was cleared.
 // The point is receiver 5; a refusal is written by its number and its place.
 use crate::{cases, print};
-use book::Answer;
+use book::{Answer, Reply};
 use index::Index;
 
 // An index, in tenths of a dB: L_DEN, or L_Night.
 fn tenths(rt: &HostRuntime, names: &[u8], k: usize, which: usize, i: Index) {
     print::name(rt, names, k);
     match i {
-        Index::Quiet => print::text(rt, b"quiet\n"),
-        Index::Tenths(n) => print::number(rt, b"L_DEN \nL_Night \n", which, n as u64),
+        None => print::text(rt, b"quiet\n"),
+        Some(n) => print::number(rt, b"L_DEN \nL_Night \n", which, u64::from(n)),
     }
 }
 
 // What a call answered.
 fn told(rt: &HostRuntime, names: &[u8], k: usize, a: Answer) {
     match a {
-        Answer::Done => print::word(rt, names, k, b"accepted\n"),
-        Answer::Levels(den, night) => {
+        Ok(Reply::Done) => print::word(rt, names, k, b"accepted\n"),
+        Ok(Reply::Levels(den, night)) => {
             tenths(rt, names, k, 0, den);
             tenths(rt, names, k, 1, night);
         }
-        Answer::Refused(why) => print::refusal_at(rt, names, k, why),
+        Err(why) => print::refusal_at(rt, names, k, why),
     }
 }
 

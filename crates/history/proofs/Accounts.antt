@@ -1,5 +1,6 @@
 -- Accounts worked out afresh, for any pairing: what an exchange makes of one, and that order does not matter.
 -- Assumes nothing.
+use Rattle.std.specs.Prelude.{Ok}
 use mathlib.Core.Path.{◌≡◌, refl}
 use mathlib.Core.Bool.{true}
 use mathlib.Core.Option.{Option, none, some}
@@ -10,7 +11,6 @@ use lib.Dec.{leb}
 use borrow.Author.Tests.{le-leb}
 use Rattle.road.specs.declared.Source.{Source}
 use Rattle.road.specs.declared.Receiver.{Receiver}
-use Rattle.road.specs.declared.Pair.TheVariants.{Heard}
 use Rattle.road.specs.Pairs.{Pairing, no_shares, brought, share_in}
 use Rattle.account.specs.Account.{covers}
 use Rattle.ledger.specs.Lists.{present, sum_of, weigh}
@@ -19,7 +19,7 @@ use Rattle.calls.proofs.Sums.{and_both}
 use Rattle.history.proofs.Slots.{perm_sum}
 
 -- nobody brings nothing
-no_share : (k : ℕ) → share_in (Heard no_shares) k ≡ 0
+no_share : (k : ℕ) → share_in (Ok no_shares) k ≡ 0
 no_share zero = refl
 no_share (suc zero) = refl
 no_share (suc (suc zero)) = refl

@@ -1,6 +1,7 @@
 -- The 25 m case as a history: place, ask, move the road away in its slot, ask, withdraw, ask. What it is answered, computed from the table
 -- of figures and the theorems.
 -- Assumes the laws of the store, given as a parameter.
+use Rattle.std.specs.Prelude.{Ok, Some, None}
 use mathlib.Core.Path.{◌≡◌, refl, sym, ap, subst, ◌∙◌}
 use mathlib.Core.Option.{some}
 use mathlib.Core.List.Memᴰ
@@ -11,15 +12,14 @@ use native.Mathlib.Omega.{arith}
 use Rattle.level.specs.Table.{table, first_quarter, second_quarter, third_quarter, fourth_quarter}
 use Rattle.level.specs.Level.{energy_of, level_of, up_to, decades, loudness_of}
 use Rattle.road.specs.declared.Source.{Source}
-use Rattle.road.specs.declared.Pair.{Pair}
+use Rattle.road.specs.Results.{Pair}
 use Rattle.road.specs.Pairs.{is_heard, share_in}
 use Rattle.road.specs.Figures.{road, home}
 use Rattle.road.proofs.Figures.{near_allowed, far_allowed, home_allowed, near_pair, far_pair}
 use Rattle.index.specs.Index.{lden_of, lnight_of}
-use Rattle.index.specs.declared.Index.TheVariants.{Quiet, Tenths}
 use Rattle.store.specs.Store.{last_source, last_receiver, source_slots, receiver_slots, wall_slots}
-use Rattle.calls.specs.declared.Answer.{Answer}
-use Rattle.calls.specs.declared.Answer.TheVariants.{Levels}
+use Rattle.calls.specs.Calls.{Answer}
+use Rattle.calls.specs.declared.Reply.TheVariants.{Levels}
 use Rattle.ledger.specs.Lists.{present}
 use Rattle.history.specs.History.{standing_receivers, Placing, source, receiver, calls, Rebuilds, Call, PlaceSource, WithdrawSource, PlaceReceiver}
 use Rattle.history.specs.History.{Ask, answer_to, Real, kept, last_at, in_slots, standing_source, standing_receiver}
@@ -38,25 +38,25 @@ far = road 110000
 
 -- what is told of three sums
 abbrev given : ℕ → ℕ → ℕ → Answer
-given a b c = Levels (lden_of (a + 0) (b + 0) (c + 0)) (lnight_of (c + 0))
+given a b c = Ok (Levels (lden_of (a + 0) (b + 0) (c + 0)) (lnight_of (c + 0)))
 
-near_energies : given (energy_of 6028) (energy_of 6028) (energy_of 5028) ≡ Levels (Tenths 616) (Tenths 503)
+near_energies : given (energy_of 6028) (energy_of 6028) (energy_of 5028) ≡ Ok (Levels (Some 616) (Some 503))
 unfolding energy_of loudness_of level_of up_to decades table first_quarter second_quarter third_quarter fourth_quarter
 near_energies = refl
 
-far_energies : given (energy_of 4293) (energy_of 4348) (energy_of 3403) ≡ Levels (Tenths 448) (Tenths 340)
+far_energies : given (energy_of 4293) (energy_of 4348) (energy_of 3403) ≡ Ok (Levels (Some 448) (Some 340))
 unfolding energy_of loudness_of level_of up_to decades table first_quarter second_quarter third_quarter fourth_quarter
 far_energies = refl
 
 -- L_DEN 61.6, L_Night 50.3
-near_levels : levels_of [] (near ∷ []) home ≡ Levels (Tenths 616) (Tenths 503)
+near_levels : levels_of [] (near ∷ []) home ≡ Ok (Levels (Some 616) (Some 503))
 near_levels = ap (λ (p : Pair). given (share_in p 0) (share_in p 1) (share_in p 2)) near_pair ∙ near_energies
 
 -- L_DEN 44.8, L_Night 34.0
-far_levels : levels_of [] (far ∷ []) home ≡ Levels (Tenths 448) (Tenths 340)
+far_levels : levels_of [] (far ∷ []) home ≡ Ok (Levels (Some 448) (Some 340))
 far_levels = ap (λ (p : Pair). given (share_in p 0) (share_in p 1) (share_in p 2)) far_pair ∙ far_energies
 
-silence : levels_of [] [] home ≡ Levels Quiet Quiet
+silence : levels_of [] [] home ≡ Ok (Levels None None)
 unfolding loudness_of
 silence = refl
 
@@ -97,7 +97,7 @@ module _ (laws : StoreLaws) where
       (by_rule [] [] tt refl (PlaceReceiver 5 home) (omega arith, home_allowed, tt))
       (PlaceSource 0 near) (omega arith, near_allowed, (ap is_heard near_pair, tt))
 
-  pub asked : answer_to placed (Ask 5) ≡ Levels (Tenths 616) (Tenths 503)
+  pub asked : answer_to placed (Ask 5) ≡ Ok (Levels (Some 616) (Some 503))
   unfolding last_at in_slots source_slots wall_slots
   asked = tells placed placed (refl, (tt, tt)) placed_kept refl ∙ near_levels
 
@@ -111,7 +111,7 @@ module _ (laws : StoreLaws) where
       by_rule (Ask 5 ∷ placed) (Ask 5 ∷ placed) (tt, (refl, (tt, tt))) asked_kept (PlaceSource 0 far) (omega arith, far_allowed, (ap is_heard far_pair, tt))
 
   -- the shares of the road that was there are gone
-  pub asked_moved : answer_to moved (Ask 5) ≡ Levels (Tenths 448) (Tenths 340)
+  pub asked_moved : answer_to moved (Ask 5) ≡ Ok (Levels (Some 448) (Some 340))
   unfolding last_at in_slots source_slots wall_slots
   asked_moved = tells moved moved (refl, (tt, (refl, (tt, tt)))) moved_kept refl ∙ far_levels
 
@@ -119,7 +119,7 @@ module _ (laws : StoreLaws) where
   unfolding last_at source_slots
   withdrawn_kept = by_rule moved moved (refl, (tt, (refl, (tt, tt)))) moved_kept (WithdrawSource 0) (omega arith, refl)
 
-  pub asked_again : answer_to withdrawn (Ask 5) ≡ Levels Quiet Quiet
+  pub asked_again : answer_to withdrawn (Ask 5) ≡ Ok (Levels None None)
   unfolding last_at in_slots source_slots wall_slots
   asked_again = tells withdrawn withdrawn (tt, (refl, (tt, (refl, (tt, tt))))) withdrawn_kept refl ∙ silence
 
@@ -145,21 +145,21 @@ module _ (laws : StoreLaws) where
         walls_first = tt;
       }
 
-  pub asked_elsewhere : answer_to (calls elsewhere) (Ask last_receiver) ≡ Levels (Tenths 616) (Tenths 503)
+  pub asked_elsewhere : answer_to (calls elsewhere) (Ask last_receiver) ≡ Ok (Levels (Some 616) (Some 503))
   unfolding receiver_slots
   asked_elsewhere =
       (rebuilt laws placed (refl, (tt, tt)) elsewhere elsewhere_rebuilds).same_levels _ 5 (Memᴰ.head refl) (omega arith) placed_seat ∙ asked
 
 -- ---- all of it in this project's store, with nothing assumed
 
-pub placed_then_asked : answer_to placed (Ask 5) ≡ Levels (Tenths 616) (Tenths 503)
+pub placed_then_asked : answer_to placed (Ask 5) ≡ Ok (Levels (Some 616) (Some 503))
 placed_then_asked = asked store_laws
 
-pub moved_then_asked : answer_to moved (Ask 5) ≡ Levels (Tenths 448) (Tenths 340)
+pub moved_then_asked : answer_to moved (Ask 5) ≡ Ok (Levels (Some 448) (Some 340))
 moved_then_asked = asked_moved store_laws
 
-pub withdrawn_then_asked : answer_to withdrawn (Ask 5) ≡ Levels Quiet Quiet
+pub withdrawn_then_asked : answer_to withdrawn (Ask 5) ≡ Ok (Levels None None)
 withdrawn_then_asked = asked_again store_laws
 
-pub rebuilt_then_asked : answer_to (calls elsewhere) (Ask last_receiver) ≡ Levels (Tenths 616) (Tenths 503)
+pub rebuilt_then_asked : answer_to (calls elsewhere) (Ask last_receiver) ≡ Ok (Levels (Some 616) (Some 503))
 rebuilt_then_asked = asked_elsewhere store_laws

@@ -1,5 +1,6 @@
 -- A book filled with sources, receivers and walls, every account worked out afresh: each call makes another such book of it, or refuses by the rule.
 -- No late refusal comes up. Assumes nothing.
+use Rattle.std.specs.Prelude.{Ok}
 use mathlib.Core.Path.{◌≡◌, refl, sym, ap, subst, ◌∙◌}
 use mathlib.Core.Bool.{true}
 use mathlib.Core.Option.{Option, none, some}
@@ -10,8 +11,7 @@ use lib.ListN.{length, get_or, set, length-set, length-map, get_or-map}
 use Rattle.screen.specs.declared.Wall.{Wall}
 use Rattle.road.specs.declared.Source.{Source}
 use Rattle.road.specs.declared.Receiver.{Receiver}
-use Rattle.road.specs.declared.Pair.{Pair}
-use Rattle.road.specs.declared.Verdict.TheVariants.{Allowed}
+use Rattle.road.specs.Results.{Pair}
 use Rattle.road.specs.Reach.{pair_of}
 use Rattle.road.specs.Pairs.{Pairing, is_heard, brought}
 use Rattle.road.proofs.Pairs.{pair_bounded}
@@ -21,7 +21,7 @@ use Rattle.account.specs.Account.{sound, covers}
 use Rattle.store.specs.Store.{last_source, last_receiver, last_wall, Book, book, source_slots, receiver_slots, wall_slots, SourceStands, HeldStands}
 use Rattle.store.specs.Store.{WallStands, SoundBook}
 use Rattle.store.proofs.Laws.{many_sources, many_receivers, many_walls}
-use Rattle.calls.specs.declared.Answer.{Answer}
+use Rattle.calls.specs.Calls.{Answer}
 use Rattle.ledger.specs.Lists.{omap, present, every, first_bar, weigh, All}
 use Rattle.ledger.specs.Changes.{Change, follow, bar_of, pair_by, exchange, together, renewing}
 use Rattle.calls.specs.Calls.{used, Step, tell, allow, from_used}
@@ -47,7 +47,7 @@ abbrev pub fill : List (Option Wall) → List (Option Source) → List (Option R
 fill W S R = book S (map (omap (weigh (pair_of (present W)) (present S))) R) W
 
 abbrev pub ReceiverStands : Receiver → Type 0
-ReceiverStands r = receiver_verdict r ≡ Allowed
+ReceiverStands r = receiver_verdict r ≡ Ok tt
 
 -- these entries may be in a book together
 pub record Standing (W : List (Option Wall)) (S : List (Option Source)) (R : List (Option Receiver)) : Type 0 where
@@ -196,7 +196,7 @@ module _ (wall-slot : ℕ → Option Wall) (source-slot : ℕ → Option Source)
   pub withdraw_source_lem : (i : ℕ) → Standing W S R → Leads (WithdrawSource i) (withdraw_source i (fill W S R))
   unfolding withdraw_source
   withdraw_source_lem i p =
-      past_fields _ _ _ last_source i Allowed _ tt (λ n. (omega (arith, n.0, many_sources), refl)) λ ok.
+      past_fields _ _ _ last_source i (Ok tt) _ tt (λ n. (omega (arith, n.0, many_sources), refl)) λ ok.
       past_used _ _ _ (get_or S i none) _ (λ n. ap used (source_slot_is i ok.0) ∙ n.1) λ s there.
       let low : i < length S = omega (arith, ok.0, p.source_slots_lem, many_sources) in
       change_source_lem i none low _ _ _ p (λ n. all_here (λ r. true ≡ true) (λ r. refl) (present R)) λ hears. (
@@ -233,9 +233,9 @@ module _ (wall-slot : ℕ → Option Wall) (source-slot : ℕ → Option Source)
   Seated j = (j < receiver_slots) × (used (seat j) ≡ true)
 
   at_seat : (j : ℕ) (Q : Answer → Type 0) (P : Book → Type 0) (k : Held → Step) → ((x : Held) → Seated j → Fine (Seated j) Q P (k x))
-      → Fine (Seated j) Q P (allow (slot_verdict last_receiver j Allowed) (from_used (get_or (fill W S R).receivers j none) k))
+      → Fine (Seated j) Q P (allow (slot_verdict last_receiver j (Ok tt)) (from_used (get_or (fill W S R).receivers j none) k))
   at_seat j Q P k f =
-      past_fields _ _ _ last_receiver j Allowed _ tt (λ n. (omega (arith, n.0, many_receivers), refl)) λ ok.
+      past_fields _ _ _ last_receiver j (Ok tt) _ tt (λ n. (omega (arith, n.0, many_receivers), refl)) λ ok.
       let same : used (get_or (fill W S R).receivers j none) ≡ used (seat j) = ap used (seat_is j ok.0) ∙ used_omap afresh (seat j) in
       past_used _ _ _ (get_or (fill W S R).receivers j none) _ (λ n. same ∙ n.1) λ x there.
       f x (omega (arith, ok.0, many_receivers), sym same ∙ ap used there)
@@ -267,7 +267,7 @@ module _ (wall-slot : ℕ → Option Wall) (source-slot : ℕ → Option Source)
   unfolding ask_receiver
   ask_tells j r h e =
       let low : j ≤ last_receiver = omega (arith, many_receivers) in
-      rw (slot_passes last_receiver j Allowed (low, refl), seat_is j low, e)
+      rw (slot_passes last_receiver j (Ok tt) (low, refl), seat_is j low, e)
 
   -- ---- walls are others: slot k then holds o
 
@@ -327,7 +327,7 @@ module _ (wall-slot : ℕ → Option Wall) (source-slot : ℕ → Option Source)
   pub withdraw_wall_lem : (k : ℕ) → Standing W S R → Leads (WithdrawWall k) (withdraw_wall k (fill W S R))
   unfolding withdraw_wall
   withdraw_wall_lem k p =
-      past_fields _ _ _ last_wall k Allowed _ tt (λ n. (omega (arith, n.0, many_walls), refl)) λ ok.
+      past_fields _ _ _ last_wall k (Ok tt) _ tt (λ n. (omega (arith, n.0, many_walls), refl)) λ ok.
       past_used _ _ _ (get_or W k none) _ (λ n. ap used (wall_slot_is k ok.0) ∙ n.1) λ w there.
       change_wall_lem k none _ _ _ (λ n. n.2) λ hears. (
         (omega (arith, ok.0, many_walls), ap used (sym (wall_slot_is k ok.0) ∙ there), hears),

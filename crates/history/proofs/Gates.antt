@@ -1,5 +1,6 @@
 -- The gates that a call passes on its way: what comes past them, and that no refusal on the way is for damage.
 -- Assumes nothing.
+use Rattle.std.specs.Prelude.{Ok, Err}
 use mathlib.Core.Path.{◌≡◌, refl, ap, subst}
 use mathlib.Core.Logic.{◌≢◌}
 use mathlib.Core.Bool.{Bool, true, false}
@@ -16,15 +17,13 @@ use Rattle.answer.specs.Table.{number_of, place_of}
 use Rattle.road.specs.declared.Source.{Source}
 use Rattle.road.specs.declared.Receiver.{Receiver}
 use Rattle.road.specs.declared.Bar.TheVariants.{Near, Far, Long, Loud, Walls}
-use Rattle.road.specs.declared.Pair.{Pair}
-use Rattle.road.specs.declared.Pair.TheVariants.{Heard, Barred}
-use Rattle.road.specs.declared.Verdict.{Verdict}
-use Rattle.road.specs.declared.Verdict.TheVariants.{Allowed, Refused as Barring}
+use Rattle.road.specs.Results.{Pair}
+use Rattle.road.specs.Results.{Verdict}
 use Rattle.road.specs.Judge.{slot_verdict}
 use Rattle.road.proofs.Judged.{slot_allowed, ByFields, slot_by_lem, by_apart}
 use Rattle.store.specs.declared.Held.{Held}
 use Rattle.store.specs.Store.{Book}
-use Rattle.calls.specs.declared.Answer.{Answer}
+use Rattle.calls.specs.Calls.{Answer}
 use Rattle.ledger.specs.Lists.{omap, present, every, or_bar, first_bar}
 use Rattle.ledger.specs.Changes.{Change, follow, bar_of, onward, together}
 use Rattle.calls.specs.Calls.{used, Step, refuse, tell, change, allow, from_used, unless_barred, unless_late, followed}
@@ -39,9 +38,9 @@ Fine N Q P (tell a) = N × Q a
 Fine N Q P (change b) = N × P b
 
 module _ (N : Type 0) (Q : Answer → Type 0) (P : Book → Type 0) where
-  past_verdict : (v : Verdict) (k : Step) → v ≢ Barring Damaged → (N → v ≡ Allowed) → (v ≡ Allowed → Fine N Q P k) → Fine N Q P (allow v k)
-  past_verdict Allowed k d n f = f refl
-  past_verdict (Barring r) k d n f = (λ e. d (ap Barring e), λ x. let q = n x in never cc)
+  past_verdict : (v : Verdict) (k : Step) → v ≢ Err Damaged → (N → v ≡ Ok tt) → (v ≡ Ok tt → Fine N Q P k) → Fine N Q P (allow v k)
+  past_verdict (Ok tt) k d n f = f refl
+  past_verdict (Err r) k d n f = (λ e. d (ap Err e), λ x. let q = n x in never cc)
 
   pub past_used : {A : Type 0} (o : Option A) (k : A → Step) → (N → used o ≡ true)
       → ((a : A) → o ≡ some a → Fine N Q P (k a)) → Fine N Q P (from_used o k)
@@ -71,8 +70,8 @@ module _ {A : Type 0} (pair : A → Pair) where
   bars_none j (some a ∷ l) p = go (pair a) p.0 (bars_none (suc j) l p.1)
     where
       go : (q : Pair) → is_heard q ≡ true → first_bar pair (suc j) l ≡ none → or_bar j q (first_bar pair (suc j) l) ≡ none
-      go (Heard h) t e = e
-      go (Barred b) t e = never cc
+      go (Ok h) t e = e
+      go (Err b) t e = never cc
 
   -- a bar is refused 10 to 14, at the slot of one of them, and so not for damage
   pub bars_by : (n j : ℕ) (l : List (Option A)) → j + length l ≤ n → ByPair n (first_bar pair j l)
@@ -82,12 +81,12 @@ module _ {A : Type 0} (pair : A → Pair) where
   bars_by n j (some a ∷ l) h = go (pair a) (bars_by n (suc j) l (omega arith))
     where
       go : (p : Pair) → ByPair n (first_bar pair (suc j) l) → ByPair n (or_bar j p (first_bar pair (suc j) l))
-      go (Heard x) m = m
-      go (Barred Near) m = (omega arith, omega arith, omega arith)
-      go (Barred Far) m = (omega arith, omega arith, omega arith)
-      go (Barred Long) m = (omega arith, omega arith, omega arith)
-      go (Barred Loud) m = (omega arith, omega arith, omega arith)
-      go (Barred Walls) m = (omega arith, omega arith, omega arith)
+      go (Ok x) m = m
+      go (Err Near) m = (omega arith, omega arith, omega arith)
+      go (Err Far) m = (omega arith, omega arith, omega arith)
+      go (Err Long) m = (omega arith, omega arith, omega arith)
+      go (Err Loud) m = (omega arith, omega arith, omega arith)
+      go (Err Walls) m = (omega arith, omega arith, omega arith)
 
   pub bars_apart : (j : ℕ) (l : List (Option A)) → first_bar pair j l ≢ some Damaged
   bars_apart j l e = omega (arith, (subst (ByPair (j + length l)) e (bars_by (j + length l) j l (le_refl (j + length l)))).0)
@@ -113,8 +112,8 @@ module _ (pair : Pairing) (r : Receiver) where
   each_together (s ∷ ss) p = go (pair s r) p.0 (each_together ss p.1)
     where
       go : (q : Pair) → is_heard q ≡ true → is_heard (together pair ss r) ≡ true → is_heard (onward q (together pair ss r)) ≡ true
-      go (Heard h) t e = e
-      go (Barred b) t e = never cc
+      go (Ok h) t e = e
+      go (Err b) t e = never cc
 
   pub together_each : (ss : List Source) → is_heard (together pair ss r) ≡ true → HearsAll pair ss r
   together_each [] e = tt
@@ -122,17 +121,17 @@ module _ (pair : Pairing) (r : Receiver) where
     where
       go : (q : Pair) → (is_heard (together pair ss r) ≡ true → HearsAll pair ss r) → is_heard (onward q (together pair ss r)) ≡ true
           → (is_heard q ≡ true) × HearsAll pair ss r
-      go (Heard h) ih e = (refl, ih e)
-      go (Barred b) ih e = never cc
+      go (Ok h) ih e = (refl, ih e)
+      go (Err b) ih e = never cc
 
 -- ---- verdicts
 
-pub slot_passes : (most i : ℕ) (v : Verdict) → (i ≤ most) × (v ≡ Allowed) → slot_verdict most i v ≡ Allowed
+pub slot_passes : (most i : ℕ) (v : Verdict) → (i ≤ most) × (v ≡ Ok tt) → slot_verdict most i v ≡ Ok tt
 slot_passes most i v h = rw (le-leb i most h.0) h.1
 
 -- the slot and the fields
 module _ (N : Type 0) (Q : Answer → Type 0) (P : Book → Type 0) where
-  pub past_fields : (most i : ℕ) (v : Verdict) (k : Step) → ByFields v → (N → (i ≤ most) × (v ≡ Allowed))
-      → ((i ≤ most) × (v ≡ Allowed) → Fine N Q P k) → Fine N Q P (allow (slot_verdict most i v) k)
+  pub past_fields : (most i : ℕ) (v : Verdict) (k : Step) → ByFields v → (N → (i ≤ most) × (v ≡ Ok tt))
+      → ((i ≤ most) × (v ≡ Ok tt) → Fine N Q P k) → Fine N Q P (allow (slot_verdict most i v) k)
   past_fields most i v k d n f =
       past_verdict N Q P (slot_verdict most i v) k (by_apart (slot_verdict most i v) (slot_by_lem most i v d)) (λ x. slot_passes most i v (n x)) (λ e. f (slot_allowed most i v e))

@@ -1,5 +1,6 @@
 -- After every history the store is undamaged, its book is filled with what stands, and what stands decides the next answer: theorems one to three.
 -- Assumes the laws of the store, given as a parameter.
+use Rattle.std.specs.Prelude.{Ok, Err}
 use mathlib.Core.Path.{◌≡◌, refl, sym, ap, ap₂, subst, subst₂, ◌∙◌}
 use mathlib.Core.Logic.{◌≢◌, ◌↔◌}
 use mathlib.Core.Bool.{Bool, true, false, cond, not, ◌||◌}
@@ -19,8 +20,8 @@ use Rattle.road.specs.declared.Receiver.{Receiver}
 use Rattle.store.specs.declared.Held.{Held}
 use Rattle.store.specs.Store.{Book, damaged, book_of, book_bytes, store_length, cleared_bytes, empty_book, book, source_slots, receiver_slots, wall_slots}
 use Rattle.store.specs.Store.{SourceStands, WallStands, SoundBook}
-use Rattle.calls.specs.declared.Answer.{Answer}
-use Rattle.calls.specs.declared.Answer.TheVariants.{Done, Levels, Refused}
+use Rattle.calls.specs.Calls.{Answer}
+use Rattle.calls.specs.declared.Reply.TheVariants.{Done, Levels}
 use Rattle.road.specs.Reach.{pair_of}
 use Rattle.ledger.specs.Lists.{omap, present, weigh}
 use Rattle.calls.specs.Calls.{number_in, Step, refuse, tell, change, told, on_store, clear_store, place_source, withdraw_source}
@@ -42,15 +43,15 @@ calls_agree c b = settled (λ (o : Answer × List ℕ). o) (perform c b)
 -- ---- answers by their numbers
 
 pub accepted_number : (a : Answer) → (accepted a ≡ true) ↔ (number_in a ≡ 0)
-accepted_number Done = (λ e. refl, λ e. refl)
-accepted_number (Levels den night) = (λ e. refl, λ e. refl)
-accepted_number (Refused r) = (λ e. never cc, λ e. absurd (never_done r e))
+accepted_number (Ok Done) = (λ e. refl, λ e. refl)
+accepted_number (Ok (Levels den night)) = (λ e. refl, λ e. refl)
+accepted_number (Err r) = (λ e. never cc, λ e. absurd (never_done r e))
 
 -- number 1 is damage
-one_damaged : (a : Answer) → number_in a ≡ 1 → a ≡ Refused Damaged
-one_damaged Done e = absurd (omega (arith, e))
-one_damaged (Levels den night) e = absurd (omega (arith, e))
-one_damaged (Refused r) e = ap Refused (one_is_damage r e)
+one_damaged : (a : Answer) → number_in a ≡ 1 → a ≡ Err Damaged
+one_damaged (Ok Done) e = absurd (omega (arith, e))
+one_damaged (Ok (Levels den night)) e = absurd (omega (arith, e))
+one_damaged (Err r) e = ap Err (one_is_damage r e)
 
 -- unless it is accepted, the store is b
 abbrev Leaves : List ℕ → Answer × List ℕ → Type 0
@@ -112,7 +113,7 @@ pub record Holds (b : List ℕ) (k : List Call) : Type 0 where
 -- what one more call, after the accepted ones k, is answered and leaves
 record Fits (k : List Call) (c : Call) (o : Answer × List ℕ) : Type 0 where
   holds : RealCall c → Holds o.1 (cond (accepted o.0) (c ∷ k) k)
-  sound : o.0 ≢ Refused Damaged
+  sound : o.0 ≢ Err Damaged
   rule : (accepted o.0 ≡ true) ↔ Rule (wall_after k) (source_after k) (seat_after k) c
 
 -- the slots of all three parties, as they are called elsewhere
@@ -130,7 +131,7 @@ holds_next b k c n e f real =
 
 pub on_store_lem : (f : Book → Step) (b : List ℕ) (x : Book) → damaged b ≡ false → book_of b ≡ x → on_store f b ≡ told b (f x)
 unfolding on_store
-on_store_lem f b x d e = ap₂ (λ t y. cond t (Refused Damaged, b) (told b (f y))) d e
+on_store_lem f b x d e = ap₂ (λ t y. cond t (Err Damaged, b) (told b (f y))) d e
 
 sound_length : (b : List ℕ) → damaged b ≡ false → eqb (length b) store_length ≡ true
 unfolding damaged
@@ -232,7 +233,7 @@ module _ (laws : StoreLaws) where
   pub clear_forgets : (h : List Call) → Real h → (since : List Call) → store_after (since ++ Clear ∷ h) ≡ store_after since
   unfolding store_after clear_store
   clear_forgets h real [] =
-      ap (λ t. (cond {A = Answer × List ℕ} t (Done, cleared_bytes) (Refused Damaged, store_after h)).1) (sound_length (store_after h) (holds h real).sound)
+      ap (λ t. (cond {A = Answer × List ℕ} t (Ok Done, cleared_bytes) (Err Damaged, store_after h)).1) (sound_length (store_after h) (holds h real).sound)
   clear_forgets h real (c ∷ since) = ap (λ b. (perform c b).1) (clear_forgets h real since)
 
   pub never_late : (h : List Call) → Real h → NeverLate h

@@ -1,5 +1,6 @@
 -- Every call of a history keeps an undamaged store undamaged, and clearing makes one: the law by which a store that is watched needs no look
 -- for damage. Assumes nothing.
+use Rattle.std.specs.Prelude.{Ok, Err}
 use mathlib.Core.Path.{◌≡◌, ap, ◌∙◌}
 use mathlib.Core.Bool.{Bool, true, false, cond}
 use mathlib.Core.List.{List}
@@ -10,8 +11,8 @@ use lib.ListN.{length}
 use Rattle.answer.specs.declared.Refusal.TheVariants.{Damaged}
 use Rattle.store.specs.Store.{Book, damaged, book_of, store_length, cleared_bytes}
 use Rattle.store.proofs.Laws.{cleared, sound_book}
-use Rattle.calls.specs.declared.Answer.{Answer}
-use Rattle.calls.specs.declared.Answer.TheVariants.{Done, Refused}
+use Rattle.calls.specs.Calls.{Answer}
+use Rattle.calls.specs.declared.Reply.TheVariants.{Done}
 use Rattle.calls.specs.Calls.{Step, place_source, withdraw_source, place_receiver, withdraw_receiver, place_wall, withdraw_wall, ask_receiver, on_store, clear_store}
 use Rattle.calls.proofs.Keeps.{Keep, source_in, source_out, receiver_in, receiver_out, wall_in, wall_out, asked, told_sound}
 use Rattle.history.specs.History.{Call, Clear, PlaceSource, WithdrawSource, PlaceReceiver, WithdrawReceiver, PlaceWall, WithdrawWall, Ask, perform}
@@ -25,7 +26,7 @@ clear_sound : (s : List ℕ) → damaged s ≡ false → damaged (clear_store s)
 unfolding clear_store
 clear_sound s d = go (eqb (length s) store_length)
   where
-    go : (t : Bool) → damaged (cond {A = Answer × List ℕ} t (Done, cleared_bytes) (Refused Damaged, s)).1 ≡ false
+    go : (t : Bool) → damaged (cond {A = Answer × List ℕ} t (Ok Done, cleared_bytes) (Err Damaged, s)).1 ≡ false
     go true = cleared.whole
     go false = d
 
@@ -44,5 +45,5 @@ pub cleared_sound : (s u : List ℕ) (a : Answer) → length s ≡ store_length 
 unfolding clear_store
 cleared_sound s u a l e =
     ap (λ (o : Answer × List ℕ). damaged o.1)
-    (e ∙ ap (λ (b : Bool). cond {A = Answer × List ℕ} b (Done, cleared_bytes) (Refused Damaged, s)) (eq-eqb (length s) store_length l))
+    (e ∙ ap (λ (b : Bool). cond {A = Answer × List ℕ} b (Ok Done, cleared_bytes) (Err Damaged, s)) (eq-eqb (length s) store_length l))
     ∙ cleared.whole

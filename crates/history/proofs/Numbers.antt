@@ -1,5 +1,6 @@
 -- The numbers that a call may be answered, for any store: 5 to 7 by slot and fields, 9 by a slot that is free, 10 to 14 by the pairs, and 1;
 -- and the places, a field's number or a slot. Assumes nothing.
+use Rattle.std.specs.Prelude.{Ok, Err}
 use mathlib.Core.Path.{◌≡◌, refl}
 use mathlib.Core.Logic.{inl, inr}
 use mathlib.Core.Bool.{Bool, true, false, cond}
@@ -15,8 +16,7 @@ use Rattle.answer.specs.Table.{number_of, place_of}
 use Rattle.screen.specs.declared.Wall.{Wall}
 use Rattle.road.specs.declared.Source.{Source}
 use Rattle.road.specs.declared.Receiver.{Receiver}
-use Rattle.road.specs.declared.Verdict.{Verdict}
-use Rattle.road.specs.declared.Verdict.TheVariants.{Allowed, Refused as Barring}
+use Rattle.road.specs.Results.{Verdict}
 use Rattle.road.specs.Reach.{pair_of}
 use Rattle.road.specs.Judge.{source_verdict, receiver_verdict, wall_verdict, slot_verdict}
 use Rattle.road.proofs.Judged.{ByFields, source_by, receiver_by, wall_by, slot_by_lem}
@@ -24,8 +24,8 @@ use Rattle.store.specs.Store.{source_count, last_source, last_receiver, last_wal
 use Rattle.store.proofs.Laws.{sound_book}
 use Rattle.ledger.specs.Lists.{present, every, first_bar}
 use Rattle.ledger.specs.Changes.{Change, bar_of, exchange, renewing}
-use Rattle.calls.specs.declared.Answer.{Answer}
-use Rattle.calls.specs.declared.Answer.TheVariants.{Done, Refused}
+use Rattle.calls.specs.Calls.{Answer}
+use Rattle.calls.specs.declared.Reply.TheVariants.{Done}
 use Rattle.calls.specs.Calls.{number_in, place_in, Step, refuse, tell, change, allow, from_used, unless_barred, unless_late, pair_in}
 use Rattle.calls.specs.Calls.{place_source, withdraw_source, place_receiver, withdraw_receiver, place_wall, withdraw_wall, ask_receiver, told, on_store}
 use Rattle.calls.specs.Calls.{clear_store}
@@ -47,8 +47,8 @@ Given (tell a) = Row (number_in a) (place_in a)
 Given (change b) = Unit {0}
 
 given_fields : (v : Verdict) (k : Step) → ByFields v → Given k → Given (allow v k)
-given_fields Allowed k n g = g
-given_fields (Barring why) k n g = (inr (inr ((n.0, omega (arith, n.1)), λ e. omega (arith, n.1))), omega (arith, n.2))
+given_fields (Ok tt) k n g = g
+given_fields (Err why) k n g = (inr (inr ((n.0, omega (arith, n.1)), λ e. omega (arith, n.1))), omega (arith, n.2))
 
 given_used : {A : Type 0} (o : Option A) (k : A → Step) → ((a : A) → Given (k a)) → Given (from_used o k)
 given_used none k g = (inr (inr ((omega arith, omega arith), λ e. omega arith)), omega arith)
@@ -81,7 +81,7 @@ module _ (b : Book) (sound : SoundBook b) where
   source_out : (i : ℕ) → Given (withdraw_source i b)
   unfolding withdraw_source
   source_out i =
-      given_fields (slot_verdict last_source i Allowed) _ (slot_by_lem last_source i Allowed tt)
+      given_fields (slot_verdict last_source i (Ok tt)) _ (slot_by_lem last_source i (Ok tt) tt)
       (given_used (get_or b.sources i none) _ λ s. given_followed (exchange (pair_in b) (get_or b.sources i none) none) _)
 
   receiver_in : (j : ℕ) (r : Receiver) → Given (place_receiver j r b)
@@ -93,7 +93,7 @@ module _ (b : Book) (sound : SoundBook b) where
   receiver_out : (j : ℕ) → Given (withdraw_receiver j b)
   unfolding withdraw_receiver
   receiver_out j =
-      given_fields (slot_verdict last_receiver j Allowed) _ (slot_by_lem last_receiver j Allowed tt) (given_used (get_or b.receivers j none) _ λ x. tt)
+      given_fields (slot_verdict last_receiver j (Ok tt)) _ (slot_by_lem last_receiver j (Ok tt) tt) (given_used (get_or b.receivers j none) _ λ x. tt)
 
   wall_in : (k : ℕ) (w : Wall) → Given (place_wall k w b)
   unfolding place_wall
@@ -104,13 +104,13 @@ module _ (b : Book) (sound : SoundBook b) where
   wall_out : (k : ℕ) → Given (withdraw_wall k b)
   unfolding withdraw_wall
   wall_out k =
-      given_fields (slot_verdict last_wall k Allowed) _ (slot_by_lem last_wall k Allowed tt)
+      given_fields (slot_verdict last_wall k (Ok tt)) _ (slot_by_lem last_wall k (Ok tt) tt)
       (given_used (get_or b.walls k none) _ λ w. given_followed (renewing (pair_of (present (set b.walls k none))) (present b.sources)) _)
 
   asked : (j : ℕ) → Given (ask_receiver j b)
   unfolding ask_receiver
   asked j =
-      given_fields (slot_verdict last_receiver j Allowed) _ (slot_by_lem last_receiver j Allowed tt) (given_used (get_or b.receivers j none) _ λ x. (inl refl, omega arith))
+      given_fields (slot_verdict last_receiver j (Ok tt)) _ (slot_by_lem last_receiver j (Ok tt) tt) (given_used (get_or b.receivers j none) _ λ x. (inl refl, omega arith))
 
 -- ---- on bytes
 
@@ -123,7 +123,7 @@ step_given : (f : Book → Step) (s : List ℕ) → (damaged s ≡ false → Giv
 unfolding on_store
 step_given f s g = go (damaged s) refl
   where
-    go : (t : Bool) → damaged s ≡ t → Told (cond t (Refused Damaged, s) (told s (f (book_of s))))
+    go : (t : Bool) → damaged s ≡ t → Told (cond t (Err Damaged, s) (told s (f (book_of s))))
     go true e = (inr (inl refl), omega arith)
     go false e = told_given s (f (book_of s)) (g e)
 
@@ -131,7 +131,7 @@ clear_given : (s : List ℕ) → Told (clear_store s)
 unfolding clear_store
 clear_given s = go (eqb (length s) store_length)
   where
-    go : (t : Bool) → Told (cond t (Done, cleared_bytes) (Refused Damaged, s))
+    go : (t : Bool) → Told (cond t (Ok Done, cleared_bytes) (Err Damaged, s))
     go true = (inl refl, omega arith)
     go false = (inr (inl refl), omega arith)
 

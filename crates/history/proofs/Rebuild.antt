@@ -1,6 +1,7 @@
 -- The fourth theorem: what stands, placed anew into a cleared store, the walls first and else in any order, into any slots, is all accepted
 -- and answers the same levels.
 -- Assumes the laws of the store, given as a parameter.
+use Rattle.std.specs.Prelude.{Ok}
 use mathlib.Core.Path.{◌≡◌, refl, sym, ap, subst, ◌∙◌, fun_ext}
 use mathlib.Core.Bool.{true}
 use mathlib.Core.List.{List, [], ◌∷◌, ◌++◌, map, Permᴰ}
@@ -12,7 +13,7 @@ use Rattle.road.specs.declared.Receiver.{Receiver}
 use Rattle.index.specs.Index.{lden_of, lnight_of}
 use Rattle.store.specs.declared.Held.{Held}
 use Rattle.store.specs.Store.{source_slots, receiver_slots, wall_slots, SourceStands, WallStands}
-use Rattle.calls.specs.declared.Answer.TheVariants.{Levels}
+use Rattle.calls.specs.declared.Reply.TheVariants.{Levels}
 use Rattle.road.specs.Reach.{pair_of}
 use Rattle.road.specs.Pairs.{Pairing, is_heard}
 use Rattle.road.proofs.Pairs.{of_pairs}
@@ -163,7 +164,7 @@ accounts_perm {w = w} {l = l} ω π r = ap (λ (pair : Pairing). weigh pair l r)
 
 levels_perm : {v w : List Wall} {l m : List Source} → Permᴰ v w → Permᴰ l m → (r : Receiver) → levels_of v l r ≡ levels_of w m r
 levels_perm ω π r =
-    ap (λ (x : Held). Levels (lden_of x.sums.day x.sums.evening x.sums.night) (lnight_of x.sums.night)) (accounts_perm ω π r)
+    ap (λ (x : Held). Ok (Levels (lden_of x.sums.day x.sums.evening x.sums.night) (lnight_of x.sums.night))) (accounts_perm ω π r)
 
 module _ (laws : StoreLaws) where
   -- one more placing that meets the rule

@@ -1,6 +1,6 @@
 -- Histories of the book: what a list of calls leaves standing, and the theorems about it (METHOD 1).
 -- What stands is read off the calls and their answers, never off a store. The theorems say that the store agrees with it, whatever the calls.
-use Rattle.std.specs.Prelude.{ℕ, zero, suc, ◌<◌, ◌≡◌, ◌≢◌, ◌↔◌, ◌⊎◌, Bool, true, false, cond, length, get_or, set, eqb}
+use Rattle.std.specs.Prelude.{ℕ, zero, suc, ◌<◌, ◌≡◌, ◌≢◌, ◌↔◌, ◌⊎◌, Bool, true, false, cond, length, get_or, set, eqb, Ok, Err}
 use Rattle.std.proofs.Math.Option.{Option, none, some}
 use mathlib.Core.List.{List, [], ◌∷◌, ◌++◌, map, Memᴰ, Permᴰ}
 use Rattle.answer.specs.Settled.{Agree}
@@ -8,15 +8,14 @@ use Rattle.answer.specs.Table.{Between}
 use Rattle.screen.specs.declared.Wall.{Wall}
 use Rattle.road.specs.declared.Source.{Source}
 use Rattle.road.specs.declared.Receiver.{Receiver}
-use Rattle.road.specs.declared.Verdict.TheVariants.{Allowed}
 use Rattle.road.specs.Reach.{pair_of}
 use Rattle.road.specs.Pairs.{is_heard, share_in}
 use Rattle.road.specs.Judge.{source_verdict, receiver_verdict, wall_verdict}
 use Rattle.index.specs.Index.{lden_of, lnight_of}
 use Rattle.store.specs.declared.Held.{Held}
 use Rattle.store.specs.Store.{Book, damaged, book_of, cleared_bytes, source_count, source_slots, receiver_slots, wall_slots}
-use Rattle.calls.specs.declared.Answer.{Answer}
-use Rattle.calls.specs.declared.Answer.TheVariants.{Done, Levels, Refused}
+use Rattle.calls.specs.Calls.{Answer}
+use Rattle.calls.specs.declared.Reply.TheVariants.{Done, Levels}
 use Rattle.ledger.specs.Lists.{omap, present, All, sum_of}
 use Rattle.calls.specs.Calls.{number_in, place_in, used, place_source, withdraw_source, place_receiver, withdraw_receiver, place_wall, withdraw_wall}
 use Rattle.calls.specs.Calls.{ask_receiver, on_store, clear_store}
@@ -75,9 +74,9 @@ Real h = All RealCall h
 -- ---- what stands after a history
 
 abbrev pub accepted : Answer → Bool
-accepted Done = true
-accepted (Levels den night) = true
-accepted (Refused r) = false
+accepted (Ok Done) = true
+accepted (Ok (Levels den night)) = true
+accepted (Err r) = false
 
 -- the calls that were accepted
 unfoldable pub kept : List Call → List Call
@@ -168,7 +167,7 @@ pub record SumsOf (ws : List Wall) (ss : List Source) (x : Held) : Type 0 where
 
 -- what an ask ought to answer
 abbrev pub levels_of : List Wall → List Source → Receiver → Answer
-levels_of ws ss r = Levels (lden_of (total ws ss r 0) (total ws ss r 1) (total ws ss r 2)) (lnight_of (total ws ss r 2))
+levels_of ws ss r = Ok (Levels (lden_of (total ws ss r 0) (total ws ss r 1) (total ws ss r 2)) (lnight_of (total ws ss r 2)))
 
 pub record HoldsWhatStands (h : List Call) : Type 0 where
   pub undamaged : damaged (store_after h) ≡ false
@@ -213,11 +212,11 @@ module _ (wall-slot : ℕ → Option Wall) (source-slot : ℕ → Option Source)
 
   abbrev pub Rule : Call → Type 0
   Rule Clear = Unit {0}
-  Rule (PlaceSource i s) = (i < source_slots) × (source_verdict s ≡ Allowed) × All (λ r. Hears walls_now s r) receivers_now
+  Rule (PlaceSource i s) = (i < source_slots) × (source_verdict s ≡ Ok tt) × All (λ r. Hears walls_now s r) receivers_now
   Rule (WithdrawSource i) = (i < source_slots) × (used (source-slot i) ≡ true)
-  Rule (PlaceReceiver j r) = (j < receiver_slots) × (receiver_verdict r ≡ Allowed) × All (λ s. Hears walls_now s r) sources_now
+  Rule (PlaceReceiver j r) = (j < receiver_slots) × (receiver_verdict r ≡ Ok tt) × All (λ s. Hears walls_now s r) sources_now
   Rule (WithdrawReceiver j) = (j < receiver_slots) × (used (seat j) ≡ true)
-  Rule (PlaceWall k w) = (k < wall_slots) × (wall_verdict w ≡ Allowed) × AllHear (walls_then k (some w)) sources_now receivers_now
+  Rule (PlaceWall k w) = (k < wall_slots) × (wall_verdict w ≡ Ok tt) × AllHear (walls_then k (some w)) sources_now receivers_now
   Rule (WithdrawWall k) = (k < wall_slots) × (used (wall-slot k) ≡ true) × AllHear (walls_then k none) sources_now receivers_now
   Rule (Ask j) = (j < receiver_slots) × (used (seat j) ≡ true)
 

@@ -1,18 +1,16 @@
 -- Bounds: the level of a sum is at most 117.09 dB, the energies of the three periods add up to less than 2^64, and no index is above 200 dB.
 -- Assumes nothing.
+use Rattle.std.specs.Prelude.{Some, None}
 use mathlib.Core.Path.{◌≡◌, refl, sym, ap, subst}
 use Prim.Native.Nat.{ℕ, ◌+◌, ◌^◌, ◌≤◌, ◌<◌}
 use native.Mathlib.Decide.{dec_lt}
 use native.Mathlib.Omega.{arith}
 use Rattle.level.specs.Table.{table, first_quarter, second_quarter, third_quarter, fourth_quarter}
 use Rattle.level.specs.Level.{energy_of, level_of, loudness_of}
-use Rattle.level.specs.declared.Loudness.{Loudness}
-use Rattle.level.specs.declared.Loudness.TheVariants.{Level}
-use Rattle.level.specs.declared.Loudness.TheVariants.{Quiet as Unheard}
+use Rattle.level.specs.Level.{Loudness}
 use Rattle.level.proofs.Laws.{level_below, level_reached, energy_rises, energy_decade, heard_quiet, heard_level}
 use Rattle.level.specs.Level.{top}
-use Rattle.index.specs.declared.Index.{Index}
-use Rattle.index.specs.declared.Index.TheVariants.{Quiet, Tenths}
+use Rattle.index.specs.Index.{Index}
 use Rattle.index.specs.Index.{level_in, tenths_of, lift, lifted_of, lnight_of, day_evening_night, lden_of}
 
 -- three entries of the table, worked out
@@ -29,7 +27,7 @@ unfolding energy_of table first_quarter second_quarter third_quarter fourth_quar
 night_most = refl
 
 -- what is heard of a sum, case by case
-heard_cases : (P : Loudness → Type 0) (s : ℕ) → (s < 1000000 → P Unheard) → (1000000 ≤ s → P (Level (level_of s))) → P (loudness_of s)
+heard_cases : (P : Loudness → Type 0) (s : ℕ) → (s < 1000000 → P None) → (1000000 ≤ s → P (Some (level_of s))) → P (loudness_of s)
 heard_cases P s f g = go (dec_lt s 1000000)
   where
     go : Dec (s < 1000000) → P (loudness_of s)
@@ -65,12 +63,12 @@ lifted_night n s l h = omega (arith, lifted_most n s h, energy_rises (11709 + n)
 -- ---- an index is at most 200 dB, where the sums are within their bound
 
 abbrev pub Small : Index → Type 0
-Small Quiet = Unit {0}
-Small (Tenths n) = n ≤ 2000
+Small None = Unit {0}
+Small (Some n) = n ≤ 2000
 
 tenths_small : (x : Loudness) → level_in x < 20000 → Small (tenths_of x)
-tenths_small Unheard h = tt
-tenths_small (Level l) h = omega arith
+tenths_small None h = tt
+tenths_small (Some l) h = omega arith
 
 pub lnight_small : (night : ℕ) → night ≤ top → Small (lnight_of night)
 lnight_small night h = tenths_small (loudness_of night) (omega (arith, level_small night h))

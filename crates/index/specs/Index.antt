@@ -1,27 +1,27 @@
 -- The two indices of a point from its sums of energy by day, in the evening and at night (VBUS equation 2, METHOD 8).
 -- `loudness_of` is what is heard of a sum: quiet, or a level in hundredths of a dB.
-use Rattle.std.specs.Prelude.{ℕ, ◌+◌, ◌*◌, ◌/◌}
+use Rattle.std.specs.Prelude.{ℕ, ◌+◌, ◌*◌, ◌/◌, Some, None, Option}
 use Rattle.level.specs.Level.{energy_of, loudness_of}
-use Rattle.level.specs.declared.Loudness.{Loudness}
-use Rattle.level.specs.declared.Loudness.TheVariants.{Level}
-use Rattle.level.specs.declared.Loudness.TheVariants.{Quiet as Unheard}
-use Rattle.index.specs.declared.Index.{Index}
-use Rattle.index.specs.declared.Index.TheVariants.{Quiet, Tenths}
+use Rattle.level.specs.Level.{Loudness}
+
+-- an index in tenths of a dB, or none where it is quiet
+abbrev pub Index : Type 0
+Index = Option ℕ
 
 -- the level that is heard, or 0
 abbrev pub level_in : Loudness → ℕ
-level_in Unheard = 0
-level_in (Level l) = l
+level_in None = 0
+level_in (Some l) = l
 
 -- a level in tenths of a dB, half a tenth up
 abbrev pub tenths_of : Loudness → Index
-tenths_of Unheard = Quiet
-tenths_of (Level l) = Tenths ((l + 5) / 10)
+tenths_of None = None
+tenths_of (Some l) = Some ((l + 5) / 10)
 
 -- the energy of a level with an addition to it; a quiet period brings nothing
 abbrev pub lift : ℕ → Loudness → ℕ
-lift n Unheard = 0
-lift n (Level l) = energy_of (l + n)
+lift n None = 0
+lift n (Some l) = energy_of (l + n)
 
 abbrev pub lifted_of : ℕ → ℕ → ℕ
 lifted_of n s = lift n (loudness_of s)

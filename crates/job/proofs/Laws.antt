@@ -1,5 +1,6 @@
 -- Bytes at hand, turns and runs: the texts so far, in front of what is left, are the listing of what arrived.
 -- Assumes nothing.
+use Rattle.std.specs.Prelude.{Ok, Err}
 use Prim.Native.Nat.{ℕ, zero, suc, ◌+◌, ◌-◌, ◌*◌, ◌≤◌, ◌<◌}
 use mathlib.Core.Path.{◌≡◌, refl, sym, ap, ap₂, ◌∙◌, subst}
 use mathlib.Core.Bool.{Bool, true, false, cond, ◌||◌, ◌&&◌}
@@ -15,8 +16,8 @@ use Rattle.request.specs.Kinds.{longest_record}
 use Rattle.answer.specs.declared.Refusal.TheVariants.{Damaged}
 use Rattle.store.specs.Store.{damaged, store_length, cleared_bytes}
 use Rattle.store.proofs.Laws.{cleared}
-use Rattle.calls.specs.declared.Answer.{Answer}
-use Rattle.calls.specs.declared.Answer.TheVariants.{Done, Refused}
+use Rattle.calls.specs.Calls.{Answer}
+use Rattle.calls.specs.declared.Reply.TheVariants.{Done}
 use Rattle.calls.specs.Calls.{clear_store}
 use Rattle.machine.specs.declared.State.{State}
 use Rattle.machine.specs.declared.Progress.{Progress}
@@ -217,7 +218,7 @@ pub cleared_is : (s u : List ℕ) (a : Answer) → length s ≡ store_length →
 unfolding clear_store
 cleared_is s u a l e =
     ap (λ (o : Answer × List ℕ). o.1)
-    (e ∙ ap (λ (b : Bool). cond {A = Answer × List ℕ} b (Done, cleared_bytes) (Refused Damaged, s)) (eq-eqb (length s) store_length l))
+    (e ∙ ap (λ (b : Bool). cond {A = Answer × List ℕ} b (Ok Done, cleared_bytes) (Err Damaged, s)) (eq-eqb (length s) store_length l))
 
 pub record Running (store₀ input₀ output₀ store input output : List ℕ) (s : Stand) (turns : ℕ) : Type 0 where
   pub ordered : s.from ≤ s.to

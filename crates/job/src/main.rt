@@ -15,9 +15,8 @@ fn room() -> [u8; store::LENGTH]
 }
 
 fn main(rt: HostRuntime) {
-    let steps = level::table::steps();
     let mut store = room();
     let mut input = [0u8; 65536];
     let mut output = [0u8; 65536];
-    pipe::run(&rt, &steps, &mut store, &mut input, &mut output);
+    pipe::run(&rt, &mut store, &mut input, &mut output);
 }

@@ -1,7 +1,6 @@
 // The way of a job through the program: input is read when less than a record is at hand, output is written piece by piece.
 // All that a job means is done by the machine; here bytes come in and texts go out.
 ghost use Rattle.std.specs.Prelude.{◌≡◌, false, ◌+◌, ◌-◌, ◌≤◌, ◌<◌, length, take};
-ghost use Rattle.level.specs.Table.{table};
 ghost use Rattle.request.specs.Kinds.{longest_record};
 ghost use Rattle.store.specs.Store.{damaged, store_length};
 ghost use Rattle.listing.specs.Listing.{line_room};
@@ -25,6 +24,7 @@ pub struct Hand {
 
 // How the program stands after a turn: the turn had the bytes from `start` to `to`, and left those from `from` on; it handed out so
 // many bytes of text; the job's state; and whether input could not be read or output not be written.
+// Flags and no error: what a turn that failed leaves is promised too (`Turned` of specs/Job.antt).
 #[derive(Clone, Copy)]
 pub struct Stand {
     pub start: usize,
@@ -90,19 +90,18 @@ fn refill(rt: &HostRuntime, input: &mut [u8], from: usize, to: usize, over: bool
 // The records at hand are done, and their lines go out.
 fn advance(
     rt: &HostRuntime,
-    steps: &[u32; 1000],
     store: &mut [u8],
     input: &[u8],
     output: &mut [u8],
     hand: Hand,
     x: State,
 ) -> Stand
-    requires { (steps.now ≡ table) × (damaged store.old ≡ false) × (hand.from ≤ hand.to) × (hand.to ≤ length input.now) × (length input.now ≤ 65536) × (x.count + 65536 < 18446744073709551616) }
+    requires { (damaged store.old ≡ false) × (hand.from ≤ hand.to) × (hand.to ≤ length input.now) × (length input.now ≤ 65536) × (x.count + 65536 < 18446744073709551616) }
     ensures { Advanced hand x input.now store.old result store.new output.new }
 {
     let from = hand.from;
     let to = hand.to;
-    let p = machine::feed(steps, x, store, &input[from..to], hand.over, output);
+    let p = machine::feed(x, store, &input[from..to], hand.over, output);
     let wrote = p.wrote;
     let told = rt.write_all(&output[..wrote]).is_ok();
     let next = from + p.used;
@@ -120,15 +119,8 @@ fn advance(
 }
 
 // One turn: bytes are fetched where they are wanted, and the records at hand are done. Where no byte can be read, none is.
-fn turn(
-    rt: &HostRuntime,
-    steps: &[u32; 1000],
-    store: &mut [u8],
-    input: &mut [u8],
-    output: &mut [u8],
-    s: Stand,
-) -> Stand
-    requires { (steps.now ≡ table) × (damaged store.old ≡ false) × (s.from ≤ s.to) × (s.to ≤ length input.old) × (longest_record ≤ length input.old) × (length input.old ≤ 65536) × (s.count + 65536 < 18446744073709551616) }
+fn turn(rt: &HostRuntime, store: &mut [u8], input: &mut [u8], output: &mut [u8], s: Stand) -> Stand
+    requires { (damaged store.old ≡ false) × (s.from ≤ s.to) × (s.to ≤ length input.old) × (longest_record ≤ length input.old) × (length input.old ≤ 65536) × (s.count + 65536 < 18446744073709551616) }
     ensures { Turned s input.old store.old result input.new store.new output.new }
 {
     let hand = refill(rt, input, s.from, s.to, s.over);
@@ -149,7 +141,7 @@ fn turn(
         count: s.count,
         stopped: s.stopped,
     };
-    advance(rt, steps, store, input, output, hand, x)
+    advance(rt, store, input, output, hand, x)
 }
 
 // Says on standard error what went wrong.
@@ -179,17 +171,11 @@ fn finish(rt: &HostRuntime, output: &mut [u8], count: u64) -> Last
 }
 
 // Runs a job, from a cleared store to the last line.
-pub fn run(
-    rt: &HostRuntime,
-    steps: &[u32; 1000],
-    store: &mut [u8],
-    input: &mut [u8],
-    output: &mut [u8],
-) -> End
-    requires { (steps.now ≡ table) × (length store.old ≡ store_length) × (longest_record ≤ length input.old) × (length input.old ≤ 65536) × (line_room ≤ length output.old) }
+pub fn run(rt: &HostRuntime, store: &mut [u8], input: &mut [u8], output: &mut [u8]) -> End
+    requires { (length store.old ≡ store_length) × (longest_record ≤ length input.old) × (length input.old ≤ 65536) × (line_room ≤ length output.old) }
     ensures { Ran result store.new output.new }
 {
-    book::clear(store);
+    let _ = book::clear(store);
     let mut s = Stand {
         start: 0,
         from: 0,
@@ -201,8 +187,7 @@ pub fn run(
         unread: false,
         unwritten: false,
     };
-    let mut turns: u64 = TURNS;
-    while 0 < turns {
+    for _ in 0..TURNS {
         if s.unread | s.unwritten {
             break;
         }
@@ -215,8 +200,7 @@ pub fn run(
                 wrote: last.wrote,
             };
         }
-        s = turn(rt, steps, store, input, output, s);
-        turns -= 1;
+        s = turn(rt, store, input, output, s);
     }
     complain(rt, s.unread, s.unwritten);
     End {

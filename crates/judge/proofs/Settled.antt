@@ -27,3 +27,6 @@ judge_wall_settled l a = settled _ _
 
 judge_slot_settled : SettlesResult proofs.judge_slot.Reads.Post
 judge_slot_settled l a = settled _ _
+
+judged_settled : SettlesResult proofs.judged.Reads.Post
+judged_settled l a = settled _ _

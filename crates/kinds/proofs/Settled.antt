@@ -7,9 +7,6 @@ use Rattle.kinds.proofs
 shape_of_settled : SettlesResult proofs.shape_of.Reads.Post
 shape_of_settled l a = settled _ _
 
-widths_settled : SettlesResult proofs.widths.Reads.Post
-widths_settled l a = settled _ _
-
 call_settled : SettlesResult proofs.call.Reads.Post
 call_settled l a = settled _ _
 

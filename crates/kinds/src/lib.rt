@@ -1,15 +1,14 @@
 // The kinds of record: the layout of each, its call, which calls are allowed, and the fields of a call.
-// A new kind is a new row of the tables and a new arm of each match.
+// A new kind is a new row of `row` and a new arm of each match.
 #![tactic(auto)]
 
 ghost use Rattle.std.specs.Prelude.{◌≡◌, ◌∷◌, ◌++◌, ◌+◌, ◌≤◌, ◌<◌, length};
-ghost use Rattle.level.specs.Table.{table};
 ghost use Rattle.layout.specs.Layout.{size, Within};
 ghost use Rattle.request.specs.Kinds.{kind_at, layout_of, call_in, source_in, counts_verdict, course_kind, counts_kind, verdict_of, kind_number, placed_fields, fields_of};
 ghost use Rattle.road.specs.Judge.{source_fields};
 ghost use Rattle.request.specs.declared.Request.TheVariants.{PlaceSource};
 ghost use Rattle.request.specs.Kinds as kinds;
-ghost use Rattle.request.specs.Inner.{all_widths, filled, shape_of};
+ghost use Rattle.request.specs.Inner.{filled, shape_of};
 
 use course::{Course, Piece};
 use request::{Counts, Request, Shape};
@@ -24,148 +23,103 @@ const RECEIVER_SLOT_BITS: u8 = 6;
 
 const WALL_SLOT_BITS: u8 = 6;
 
-// The widths in bits of one kind after the other: the kind itself, its fields, and its leftover bits where there are any.
-const WIDTHS: [u8; 85] = [
-    // 1: place receiver
+// The widths in bits of a kind: the kind itself, its fields, and its leftover bits where there are any.
+static PLACE_RECEIVER: [u8; 6] = [
     KIND_BITS,
     RECEIVER_SLOT_BITS,
-    fields::RECEIVER[0][fields::BITS] as u8,
-    fields::RECEIVER[1][fields::BITS] as u8,
-    fields::RECEIVER[2][fields::BITS] as u8,
+    fields::RECEIVER[0].bits,
+    fields::RECEIVER[1].bits,
+    fields::RECEIVER[2].bits,
     5,
-    // 2: withdraw receiver
-    KIND_BITS,
-    RECEIVER_SLOT_BITS,
-    6,
-    // 3: place source
-    KIND_BITS,
-    SOURCE_SLOT_BITS,
-    fields::PIECE[0][fields::BITS] as u8,
-    fields::PIECE[1][fields::BITS] as u8,
-    fields::PIECE[2][fields::BITS] as u8,
-    fields::SOURCE[0][fields::BITS] as u8,
-    fields::SOURCE[1][fields::BITS] as u8,
-    fields::SOURCE[2][fields::BITS] as u8,
-    fields::SOURCE[3][fields::BITS] as u8,
-    fields::SOURCE[4][fields::BITS] as u8,
-    fields::SOURCE[5][fields::BITS] as u8,
-    fields::SOURCE[6][fields::BITS] as u8,
-    fields::SOURCE[7][fields::BITS] as u8,
-    fields::SOURCE[8][fields::BITS] as u8,
-    fields::SOURCE[9][fields::BITS] as u8,
-    fields::SOURCE[10][fields::BITS] as u8,
-    fields::SOURCE[11][fields::BITS] as u8,
-    fields::SOURCE[12][fields::BITS] as u8,
-    fields::SOURCE[13][fields::BITS] as u8,
-    fields::SOURCE[14][fields::BITS] as u8,
-    // 4: withdraw source
-    KIND_BITS,
-    SOURCE_SLOT_BITS,
-    3,
-    // 5: ask
-    KIND_BITS,
-    RECEIVER_SLOT_BITS,
-    6,
-    // 6: place a source by its daily figure
-    KIND_BITS,
-    SOURCE_SLOT_BITS,
-    fields::PIECE[0][fields::BITS] as u8,
-    fields::PIECE[1][fields::BITS] as u8,
-    fields::PIECE[2][fields::BITS] as u8,
-    fields::SOURCE[0][fields::BITS] as u8,
-    fields::SOURCE[1][fields::BITS] as u8,
-    fields::SOURCE[2][fields::BITS] as u8,
-    fields::SOURCE[3][fields::BITS] as u8,
-    fields::SOURCE[4][fields::BITS] as u8,
-    fields::SOURCE[5][fields::BITS] as u8,
-    fields::SOURCE[6][fields::BITS] as u8,
-    fields::SOURCE[7][fields::BITS] as u8,
-    fields::SOURCE[8][fields::BITS] as u8,
-    daily::CLASS_BITS,
-    daily::DTV_BITS,
-    2,
-    // 7: place a source by its ends
-    KIND_BITS,
-    SOURCE_SLOT_BITS,
-    fields::ENDS[0][fields::BITS] as u8,
-    fields::ENDS[1][fields::BITS] as u8,
-    fields::ENDS[2][fields::BITS] as u8,
-    fields::ENDS[3][fields::BITS] as u8,
-    fields::SOURCE[0][fields::BITS] as u8,
-    fields::SOURCE[1][fields::BITS] as u8,
-    fields::SOURCE[2][fields::BITS] as u8,
-    fields::SOURCE[3][fields::BITS] as u8,
-    fields::SOURCE[4][fields::BITS] as u8,
-    fields::SOURCE[5][fields::BITS] as u8,
-    fields::SOURCE[6][fields::BITS] as u8,
-    fields::SOURCE[7][fields::BITS] as u8,
-    fields::SOURCE[8][fields::BITS] as u8,
-    fields::SOURCE[9][fields::BITS] as u8,
-    fields::SOURCE[10][fields::BITS] as u8,
-    fields::SOURCE[11][fields::BITS] as u8,
-    fields::SOURCE[12][fields::BITS] as u8,
-    fields::SOURCE[13][fields::BITS] as u8,
-    fields::SOURCE[14][fields::BITS] as u8,
-    1,
-    // 8: place a wall
+];
+
+// Of a receiver that is withdrawn, and of what is asked at one.
+static RECEIVER_SLOT: [u8; 3] = [KIND_BITS, RECEIVER_SLOT_BITS, 6];
+
+// A source's kind, its slot and its course, then its road, which is the same in each kind, and what follows that.
+macro_rules! placed {
+    ([$($course:expr),*], [$($after:expr),*]) => {
+        [
+            KIND_BITS,
+            SOURCE_SLOT_BITS,
+            $($course,)*
+            fields::SOURCE[0].bits,
+            fields::SOURCE[1].bits,
+            fields::SOURCE[2].bits,
+            fields::SOURCE[3].bits,
+            fields::SOURCE[4].bits,
+            fields::SOURCE[5].bits,
+            fields::SOURCE[6].bits,
+            fields::SOURCE[7].bits,
+            fields::SOURCE[8].bits,
+            $($after),*
+        ]
+    };
+}
+
+// The same where counts by period follow, and then leftover bits.
+macro_rules! counted {
+    ([$($course:expr),*], [$($left:expr),*]) => {
+        placed!(
+            [$($course),*],
+            [
+                fields::SOURCE[9].bits,
+                fields::SOURCE[10].bits,
+                fields::SOURCE[11].bits,
+                fields::SOURCE[12].bits,
+                fields::SOURCE[13].bits,
+                fields::SOURCE[14].bits
+                $(, $left)*
+            ]
+        )
+    };
+}
+
+// Of a source by its middle and its length.
+static PLACE_UNCUT: [u8; 20] = counted!(
+    [
+        fields::PIECE[0].bits,
+        fields::PIECE[1].bits,
+        fields::PIECE[2].bits
+    ],
+    []
+);
+
+static WITHDRAW_SOURCE: [u8; 3] = [KIND_BITS, SOURCE_SLOT_BITS, 3];
+
+// Of one by its daily figure.
+static PLACE_DAILY: [u8; 17] = placed!(
+    [
+        fields::PIECE[0].bits,
+        fields::PIECE[1].bits,
+        fields::PIECE[2].bits
+    ],
+    [daily::DAILY[0].bits, daily::DAILY[1].bits, 2]
+);
+
+// Of one by its ends.
+static PLACE_BETWEEN: [u8; 22] = counted!(
+    [
+        fields::ENDS[0].bits,
+        fields::ENDS[1].bits,
+        fields::ENDS[2].bits,
+        fields::ENDS[3].bits
+    ],
+    [1]
+);
+
+static PLACE_WALL: [u8; 8] = [
     KIND_BITS,
     WALL_SLOT_BITS,
-    fields::WALL[0][fields::BITS] as u8,
-    fields::WALL[1][fields::BITS] as u8,
-    fields::WALL[2][fields::BITS] as u8,
-    fields::WALL[3][fields::BITS] as u8,
-    fields::WALL[4][fields::BITS] as u8,
-    3,
-    // 9: withdraw a wall
-    KIND_BITS,
-    WALL_SLOT_BITS,
-    6,
-];
-
-// How many widths a kind has. Here and below the first row is for no kind. (Bytes: a table is laid out anew at every use.)
-const COUNT: [u8; 10] = [
-    0,
-    3 + fields::RECEIVER_ROWS as u8,
-    3,
-    2 + fields::PIECE_ROWS as u8 + fields::SOURCE_ROWS as u8,
-    3,
-    3,
-    3 + fields::PIECE_ROWS as u8 + FIGURES as u8,
-    3 + fields::ENDS_ROWS as u8 + fields::SOURCE_ROWS as u8,
-    3 + fields::WALL_ROWS as u8,
+    fields::WALL[0].bits,
+    fields::WALL[1].bits,
+    fields::WALL[2].bits,
+    fields::WALL[3].bits,
+    fields::WALL[4].bits,
     3,
 ];
 
-// Where its widths start among them.
-const START: [u8; 10] = [
-    0,
-    0,
-    COUNT[1],
-    COUNT[1] + COUNT[2],
-    COUNT[1] + COUNT[2] + COUNT[3],
-    COUNT[1] + COUNT[2] + COUNT[3] + COUNT[4],
-    COUNT[1] + COUNT[2] + COUNT[3] + COUNT[4] + COUNT[5],
-    COUNT[1] + COUNT[2] + COUNT[3] + COUNT[4] + COUNT[5] + COUNT[6],
-    COUNT[1] + COUNT[2] + COUNT[3] + COUNT[4] + COUNT[5] + COUNT[6] + COUNT[7],
-    COUNT[1] + COUNT[2] + COUNT[3] + COUNT[4] + COUNT[5] + COUNT[6] + COUNT[7] + COUNT[8],
-];
-
-// How many fields.
-const FIELDS: [u8; 10] = [
-    0,
-    1 + fields::RECEIVER_ROWS as u8,
-    1,
-    1 + fields::PIECE_ROWS as u8 + fields::SOURCE_ROWS as u8,
-    1,
-    1,
-    1 + fields::PIECE_ROWS as u8 + FIGURES as u8,
-    1 + fields::ENDS_ROWS as u8 + fields::SOURCE_ROWS as u8,
-    1 + fields::WALL_ROWS as u8,
-    1,
-];
-
-// How many bytes.
-const BYTES: [u8; 10] = [0, 9, 2, 30, 2, 2, 20, 34, 15, 2];
+static WITHDRAW_WALL: [u8; 3] = [KIND_BITS, WALL_SLOT_BITS, 6];
 
 // The last slots that their bits can name, however many slots a book has.
 const LAST_NAMED_SOURCE: u16 = (1 << SOURCE_SLOT_BITS) - 1;
@@ -185,56 +139,50 @@ const AFTER_ENDS: usize = FIRST + fields::ENDS_ROWS;
 // How many a road has with its daily figure.
 const FIGURES: usize = fields::ROAD_ROWS + daily::DAILY_ROWS;
 
-// The row of a kind.
-fn row(kind: usize) -> usize
-    ensures { (kind_at result ≡ kind_at kind) × (result < 10) }
+// The widths of a kind, how many fields it has, and how many bytes; none where it is not listed.
+// By its number: it is read from a record, and may be that of no kind.
+fn row(kind: usize) -> (&'static [u8], usize, usize)
+    ensures { (result.0.now ≡ layout_of kind) × (result.1 ≡ (kind_at kind).fields) × (result.2 ≡ size (layout_of kind)) }
 {
-    if kind < 10 {
-        return kind;
+    match kind {
+        1 => (&PLACE_RECEIVER, 1 + fields::RECEIVER_ROWS, 9),
+        2 => (&RECEIVER_SLOT, 1, 2),
+        3 => (
+            &PLACE_UNCUT,
+            1 + fields::PIECE_ROWS + fields::SOURCE_ROWS,
+            30,
+        ),
+        4 => (&WITHDRAW_SOURCE, 1, 2),
+        5 => (&RECEIVER_SLOT, 1, 2),
+        6 => (&PLACE_DAILY, 1 + fields::PIECE_ROWS + FIGURES, 20),
+        7 => (
+            &PLACE_BETWEEN,
+            1 + fields::ENDS_ROWS + fields::SOURCE_ROWS,
+            34,
+        ),
+        8 => (&PLACE_WALL, 1 + fields::WALL_ROWS, 15),
+        9 => (&WITHDRAW_WALL, 1, 2),
+        _ => (&[], 0, 0),
     }
-    0
-}
-
-// A number of the tables.
-fn wide(n: u8) -> usize
-    ensures { result ≡ n }
-{
-    n as usize
 }
 
 // The sizes of a kind's layout; all 0 where it is not listed.
 pub fn shape_of(kind: usize) -> Shape
     ensures { result ≡ shape_of kind }
 {
-    let at = row(kind);
-    let count = COUNT[at];
-    let fields = FIELDS[at];
-    let bytes = BYTES[at];
+    let (widths, fields, bytes) = row(kind);
     Shape {
-        count: wide(count),
-        fields: wide(fields),
-        bytes: wide(bytes),
+        count: widths.len(),
+        fields,
+        bytes,
     }
 }
 
-// The widths of all kinds, to be lent to `layout_of`.
-pub fn widths() -> [u8; 85]
-    ensures { result ≡ all_widths }
-{
-    WIDTHS
-}
-
-// The layout of a kind, a part of the widths of all; empty where the kind is not listed.
-pub fn layout_of(widths: &[u8], kind: usize) -> &[u8]
-    requires { widths.now ≡ all_widths }
+// The layout of a kind; empty where it is not listed.
+pub fn layout_of(kind: usize) -> &'static [u8]
     ensures { result.now ≡ layout_of kind }
 {
-    let at = row(kind);
-    let start = START[at];
-    let count = COUNT[at];
-    let from = wide(start);
-    let end = from + wide(count);
-    &widths[from..end]
+    row(kind).0
 }
 
 // What the fields of a kind ask for.
@@ -261,45 +209,36 @@ pub fn call(kind: usize, v: &[u64]) -> Request
 }
 
 // Which sources are allowed, by how their traffic is told.
-fn judge_counts(steps: &[u32; 1000], counts: Counts, source: Source) -> Verdict
-    requires { steps.now ≡ table }
+fn judge_counts(counts: Counts, source: Source) -> Verdict
     ensures { result ≡ counts_verdict counts source }
 {
     match counts {
-        Counts::ByPeriod => judge::judge_source(steps, source),
-        Counts::ByDay(p, d) => daily::judge(steps, Course::Uncut(p), d, source),
+        Counts::ByPeriod => judge::judge_source(source),
+        Counts::ByDay(p, d) => daily::judge(Course::Uncut(p), d, source),
     }
 }
 
 // Which calls are allowed.
-pub fn verdict(steps: &[u32; 1000], call: Request, source: Source) -> Verdict
-    requires { steps.now ≡ table }
+pub fn verdict(call: Request, source: Source) -> Verdict
     ensures { result ≡ verdict_of call source }
 {
     match call {
         Request::PlaceReceiver(slot, r) => {
-            judge::judge_slot(LAST_NAMED_RECEIVER, slot, judge::judge_receiver(r))
+            judge::judge_slot(LAST_NAMED_RECEIVER, slot)?;
+            judge::judge_receiver(r)
         }
-        Request::WithdrawReceiver(slot) => judge::judge_slot(
-            LAST_NAMED_RECEIVER,
-            slot,
-            Verdict::Allowed,
-        ),
+        Request::WithdrawReceiver(slot) => judge::judge_slot(LAST_NAMED_RECEIVER, slot),
         Request::PlaceSource(slot, counts) => {
-            judge::judge_slot(LAST_NAMED_SOURCE, slot, judge_counts(steps, counts, source))
+            judge::judge_slot(LAST_NAMED_SOURCE, slot)?;
+            judge_counts(counts, source)
         }
-        Request::WithdrawSource(slot) => judge::judge_slot(
-            LAST_NAMED_SOURCE,
-            slot,
-            Verdict::Allowed,
-        ),
-        Request::Ask(slot) => judge::judge_slot(LAST_NAMED_RECEIVER, slot, Verdict::Allowed),
-        Request::PlaceWall(slot, w) => judge::judge_slot(
-            LAST_NAMED_WALL,
-            slot,
-            judge::judge_wall(w),
-        ),
-        Request::WithdrawWall(slot) => judge::judge_slot(LAST_NAMED_WALL, slot, Verdict::Allowed),
+        Request::WithdrawSource(slot) => judge::judge_slot(LAST_NAMED_SOURCE, slot),
+        Request::Ask(slot) => judge::judge_slot(LAST_NAMED_RECEIVER, slot),
+        Request::PlaceWall(slot, w) => {
+            judge::judge_slot(LAST_NAMED_WALL, slot)?;
+            judge::judge_wall(w)
+        }
+        Request::WithdrawWall(slot) => judge::judge_slot(LAST_NAMED_WALL, slot),
     }
 }
 
@@ -317,9 +256,8 @@ fn course_kind(course: Course) -> usize
 fn counts_kind(counts: Counts, source: Source) -> usize
     ensures { result ≡ counts_kind counts source }
 {
-    let course = source.course;
     match counts {
-        Counts::ByPeriod => course_kind(course),
+        Counts::ByPeriod => course_kind(source.course),
         Counts::ByDay(_, _) => 6,
     }
 }
@@ -343,8 +281,7 @@ pub fn number(call: Request, source: Source) -> usize
 pub fn blank() -> Source
     ensures { result ≡ kinds.blank }
 {
-    let none = Traffic { m: 0, p: 0 };
-    let traffic = [none, none, none];
+    let traffic = [Traffic { m: 0, p: 0 }; 3];
     let course = Course::Uncut(Piece {
         x: 0,
         y: 0,
@@ -413,12 +350,8 @@ fn join(kind: u64, slot: u16, fields: &[u64]) -> [u64; 25]
 {
     let mut v = [0u64; 25];
     v[0] = kind;
-    v[1] = slot as u64;
-    let mut i = 0;
-    while i < fields.len() {
-        v[i + 2] = fields[i];
-        i += 1;
-    }
+    v[1] = u64::from(slot);
+    layout::lay(fields, &mut v, FIRST);
     v
 }
 
@@ -453,9 +386,8 @@ fn placed_fields(slot: u16, course: Course, source: Source) -> [u64; 25]
 fn source_fields(slot: u16, counts: Counts, source: Source) -> [u64; 25]
     ensures { result ≡ filled (fields_of (PlaceSource slot counts) source) }
 {
-    let course = source.course;
     match counts {
-        Counts::ByPeriod => placed_fields(slot, course, source),
+        Counts::ByPeriod => placed_fields(slot, source.course, source),
         Counts::ByDay(p, d) => {
             let values = fields::piece_values(p);
             let fields = daily::values(d, source);

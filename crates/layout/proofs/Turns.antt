@@ -1,54 +1,60 @@
 -- The turns of the loops: what holds before a turn holds after it. Assumes nothing.
 use Prim.Native.Nat.{ℕ, suc, ◌+◌, ◌-◌, ◌*◌, ◌/◌, ◌%◌, ◌^◌, ◌≤◌, ◌<◌}
 use mathlib.Core.Path.{◌≡◌, refl, sym, ap, ap₂, ◌∙◌}
-use mathlib.Core.Bool.{true, ◌&&◌}
+use mathlib.Core.Bool.{Bool, true, false, ◌&&◌}
 use mathlib.Core.List.{List, [], ◌∷◌, ◌++◌, append_assoc, append-nil}
-use native.Mathlib.Nat.{mod-eq_of_lt, mod-lt, lt_of_lt_of_le, pow-suc, mul_assoc, add-mul, add_assoc, add-zero, zero-mul, one-mul, sub-zero}
+use native.Mathlib.Nat.{mod-eq_of_lt, mod-lt, lt_of_lt_of_le, mul_assoc, add-mul, add_assoc, add-zero, zero-mul, one-mul, sub-zero}
 use native.Mathlib.Numerals.{add-one}
 use native.Mathlib.Omega.{arith}
 use borrow.Author.Tests.{leb-true}
+use Rattle.std.proofs.lemmas.Bool.{ltb-false}
 use lib.Arith.{digits_lt}
 use lib.Dec.{leb}
 use lib.ListN.{length, get_or, take, drop, set, length-take, length-drop}
 use lib.Pow.{pow_pos, pow_mono, pow-add, split, shl_exact}
-use lib.Seq.{drop-cons, drop-drop, drop-length, take-add, take-length, length-take-le, get_or-drop, take-suc-set}
+use lib.Seq.{drop-cons, drop-length, take-length, get_or-drop, take-suc-set}
+use Rattle.std.specs.Int.{w64, from_be_bytes}
+use Rattle.std.specs.Prelude.{zero, nat_lt, cond}
 use Rattle.layout.specs.Layout.{sum, pack, unpack, Within, Bytes, num, bytes_of, bits, size, sized, narrow, fields, packed}
 use Rattle.layout.specs.Over.{over}
 use Rattle.layout.proofs.Packing.{pack_lt}
-use Rattle.layout.proofs.Numbers.{num_lt, num_none, num_append, num_snoc, bytes_take, bytes_drop, bytes_of_cons, bytes_of_none, bytes_of_append, length_bytes_of, bits_take}
+use Rattle.layout.proofs.Numbers.{num_lt, num_none, num_snoc, bytes_take, bytes_of_cons, bytes_of_none, bytes_of_append, length_bytes_of, bits_take}
 use Rattle.layout.proofs.Writes.{over_cons, over_none, over_next, length_over}
 use Rattle.layout.proofs.Bounds.{both}
 use Rattle.layout.proofs.Laws.{sized_narrow, sized_whole, length_packed}
 
--- `number`: a byte more, and room for it
-pub number_more : (s : List ℕ) (at i acc b : ℕ) → at + i < length s → b ≡ get_or s (at + i) 0 → acc ≡ num (take i (drop at s))
-    → acc * 256 + b ≡ num (take (i + 1) (drop at s))
-number_more s at i acc b h e a =
-    ap₂ (λ (x y : ℕ). x * 256 + y) a (e ∙ sym (get_or-drop at s i 0)) ∙ sym (num_snoc (drop at s) i (rw length-drop (omega arith)))
+-- `number`: a byte more of t, and room for it
+pub number_more : (t : List ℕ) (i acc b : ℕ) → i < length t → b ≡ get_or t i 0 → acc ≡ num (take i t) → acc * 256 + b ≡ num (take (i + 1) t)
+number_more t i acc b h e a = ap₂ (λ (x y : ℕ). x * 256 + y) a e ∙ sym (num_snoc t i h)
 
-pub number_lt : (s : List ℕ) (at i : ℕ) → Bytes s → i ≤ 7 → num (take i (drop at s)) < 2 ^ 56
-number_lt s at i b h =
-    lt_of_lt_of_le (num_lt (take i (drop at s)) (bytes_take i (drop at s) (bytes_drop at s b)))
-    (pow_mono {i = 8 * length (take i (drop at s))} {j = 56} (rw length-take (omega arith)))
+pub number_lt : (t : List ℕ) (i : ℕ) → Bytes t → i ≤ 7 → num (take i t) < 2 ^ 56
+number_lt t i b h =
+    lt_of_lt_of_le (num_lt (take i t) (bytes_take i t b)) (pow_mono {i = 8 * length (take i t)} {j = 56} (rw length-take (omega arith)))
 
--- `four` and `eight`: bytes read at once are bytes read one by one
-pub number_four : (s : List ℕ) (at a b c d : ℕ) → at + 4 ≤ length s → a ≡ get_or s at 0 → b ≡ get_or s (at + 1) 0 → c ≡ get_or s (at + 2) 0
-    → d ≡ get_or s (at + 3) 0 → a * 16777216 + b * 65536 + c * 256 + d ≡ num (take 4 (drop at s))
-number_four s at a b c d h e f g i =
-    let one = number_more s at 0 0 a (omega arith) (e ∙ ap (λ (k : ℕ). get_or s k 0) (sym (add-zero at))) (sym num_none) in
-    let two = number_more s at 1 (0 * 256 + a) b (omega arith) f one in
-    let three = number_more s at 2 ((0 * 256 + a) * 256 + b) c (omega arith) g two in
-    let l : a * 16777216 + b * 65536 + c * 256 + d ≡ (((0 * 256 + a) * 256 + b) * 256 + c) * 256 + d = omega arith in
-    l ∙ number_more s at 3 (((0 * 256 + a) * 256 + b) * 256 + c) d (omega arith) i three
-
-pub number_eight : (s : List ℕ) (at x y : ℕ) → at + 8 ≤ length s → x ≡ num (take 4 (drop at s)) → y ≡ num (take 4 (drop (at + 4) s))
-    → x * 4294967296 + y ≡ num (take 8 (drop at s))
-number_eight s at x y h e f =
+-- `eight`: bytes read at once are bytes read one by one
+pub number_eight : (s : List ℕ) (at : ℕ) → at + 8 ≤ length s
+    → from_be_bytes w64
+    (get_or s at 0 ∷ get_or s (at + 1) 0 ∷ get_or s (at + 2) 0 ∷ get_or s (at + 3) 0 ∷ get_or s (at + 4) 0 ∷ get_or s (at + 5) 0
+    ∷ get_or s (at + 6) 0 ∷ get_or s (at + 7) 0 ∷ [])
+    ≡ num (take 8 (drop at s))
+number_eight s at h =
     let t = drop at s in
-    let u = take 4 (drop 4 t) in
-    let n : length u ≡ 4 = length-take-le 4 (drop 4 t) (rw (length-drop, length-drop) (omega arith)) in
-    ap₂ (λ (p q : ℕ). p * 4294967296 + q) e (f ∙ ap (λ (l : List ℕ). num (take 4 l)) (sym (drop-drop 4 at s)))
-    ∙ sym (ap num (take-add 4 4 t) ∙ num_append (take 4 t) u ∙ ap (λ (k : ℕ). num (take 4 t) * 2 ^ (8 * k) + num u) n)
+    let room : 8 ≤ length t = rw length-drop (omega arith) in
+    let next : (i : ℕ) → i < 8 → num (take (i + 1) t) ≡ num (take i t) * 256 + get_or s (at + i) 0 =
+    λ i l. num_snoc t i (omega arith) ∙ ap (λ (x : ℕ). num (take i t) * 256 + x) (get_or-drop at s i 0) in
+    omega (
+      arith,
+      num_none,
+      ap (λ (k : ℕ). get_or s k 0) (add-zero at),
+      next 0 (omega arith),
+      next 1 (omega arith),
+      next 2 (omega arith),
+      next 3 (omega arith),
+      next 4 (omega arith),
+      next 5 (omega arith),
+      next 6 (omega arith),
+      next 7 (omega arith),
+    )
 
 -- `put_number`: a byte less is left
 pub number_put : (s t : List ℕ) (i left x : ℕ) → i < length s → 1 ≤ left → over i (bytes_of left x) s ≡ t
@@ -64,14 +70,19 @@ number_done s t i left x h e =
     let k : left ≡ 0 = omega arith in
     sym (ap (λ (n : ℕ). over i (bytes_of n x) s) k ∙ ap (λ (u : List ℕ). over i u s) (bytes_of_none x) ∙ over_none i s) ∙ e
 
--- `join`: both steps of the shift lose nothing
-pub twice : (x w : ℕ) → 1 ≤ w → x * 2 ^ w < 2 ^ 64 → x * 2 ^ (w - 1) % 2 ^ 64 * 2 ≡ x * 2 ^ w
-twice x w h l =
-    let k : w ≡ suc (w - 1) = omega arith in
-    let e : x * 2 ^ w ≡ x * 2 ^ (w - 1) * 2 =
-    ap (λ (n : ℕ). x * 2 ^ n) k ∙ ap (λ (n : ℕ). x * n) (pow-suc 2 (w - 1)) ∙ sym (mul_assoc x (2 ^ (w - 1)) 2) in
-    let m : x * 2 ^ (w - 1) < 2 ^ 64 = omega arith in
-    omega (arith, mod-eq_of_lt m)
+-- `put_fields`: a shift by w loses nothing of what has room before w bits, also where w is a whole word
+none_left : (x w : ℕ) → 64 ≤ w → x * 2 ^ w < 2 ^ 64 → x * 2 ^ w ≡ 0
+none_left zero w h l = zero-mul (2 ^ w)
+none_left (suc x) w h l =
+    let k : 2 ^ 64 ≤ 2 ^ w = pow_mono h in
+    absurd (omega (arith, k, l))
+
+shl_by : (b : Bool) (x w : ℕ) → nat_lt w 64 ≡ b → x * 2 ^ w < 2 ^ 64 → cond b (x * 2 ^ w % 2 ^ 64) 0 ≡ x * 2 ^ w
+shl_by true x w e l = mod-eq_of_lt l
+shl_by false x w e l = sym (none_left x w (ltb-false w 64 e) l)
+
+pub shl_whole : (x w : ℕ) → x * 2 ^ w < 2 ^ 64 → cond (nat_lt w 64) (x * 2 ^ w % 2 ^ 64) 0 ≡ x * 2 ^ w
+shl_whole x w l = shl_by (nat_lt w 64) x w refl l
 
 -- the field of a layout that is next, and the rest
 narrow_here : (r w : ℕ) (ws : List ℕ) → narrow r (w ∷ ws) ≡ true → (1 ≤ w) × (r + w ≤ 64) × (narrow ((r + w) % 8) ws ≡ true)
@@ -185,6 +196,13 @@ sent_small {ws = ws} {vs} {have = have} {acc} {i} {w} {v} t hi l e f =
     let g : Within (drop i ws) (drop i vs) = t.fit in
     let b : get_or vs i 0 < 2 ^ get_or ws i 0 = (rw (next ws i hi, next vs i k) at g).0 in
     rw (pow-add, e, f) (digits_lt t.small b)
+
+-- the bits in hand and the next field make a number of a word
+pub sent_word : {out₀ ws vs out : List ℕ} {at have acc i w y : ℕ} → Sent out₀ ws vs out at have acc i → i < length ws → length vs ≡ length ws
+    → w ≡ get_or ws i 0 → y ≡ cond (nat_lt w 64) (acc * 2 ^ w % 2 ^ 64) 0 → (y ≡ acc * 2 ^ w) × (acc * 2 ^ w + get_or vs i 0 < 2 ^ 64)
+sent_word {acc = acc} {w = w} t hi l e f =
+    let small = lt_of_lt_of_le (sent_small t hi l e refl) (pow_mono {j = 64} (sent_room t hi e).1) in
+    (f ∙ shl_whole acc w (omega (arith, small)), small)
 
 pub sent_more : {out₀ ws vs out : List ℕ} {at have acc i w v x n h : ℕ} → Sent out₀ ws vs out at have acc i
     → sized ws ≡ true → size ws ≤ length out₀ → i < length ws → length vs ≡ length ws

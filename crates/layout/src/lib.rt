@@ -7,54 +7,33 @@ ghost use Rattle.layout.specs.Layout.{num, bytes_of, bits, size, sized, fields, 
 ghost use Rattle.layout.specs.Bounds.{first_outside};
 ghost use Rattle.layout.specs.Over.{over};
 
-// A byte as a number of 64 bits.
-fn wide(x: u8) -> u64
-    ensures { result ≡ x }
-{
-    x as u64
-}
-
-// A byte as a count.
-fn count(x: u8) -> usize
-    ensures { result ≡ x }
-{
-    x as usize
-}
-
 // The number of the n bytes of s from index at on.
 pub fn number(s: &[u8], at: usize, n: usize) -> u64
     requires { (n ≤ 8) × (at + n ≤ length s.now) }
     ensures { result ≡ num (take n (drop at s.now)) }
 {
     let mut acc: u64 = 0;
-    let mut i = 0;
-    while i < n {
-        acc = acc * 256 + wide(s[at + i]);
-        i += 1;
+    for b in &s[at..at + n] {
+        acc = acc * 256 + u64::from(*b);
     }
     acc
 }
 
-// The number of the four bytes of s from index at on, all at once.
-fn four(s: &[u8], at: usize) -> u64
-    requires { at + 4 ≤ length s.now }
-    ensures { (result ≡ num (take 4 (drop at s.now))) × (result < 2 ^ 32) }
-{
-    let a = wide(s[at]);
-    let b = wide(s[at + 1]);
-    let c = wide(s[at + 2]);
-    let d = wide(s[at + 3]);
-    a * 16777216 + b * 65536 + c * 256 + d
-}
-
-// The number of the eight bytes of s from index at on.
+// The number of the eight bytes of s from index at on, read at once.
 fn eight(s: &[u8], at: usize) -> u64
     requires { at + 8 ≤ length s.now }
     ensures { result ≡ num (take 8 (drop at s.now)) }
 {
-    let high = four(s, at);
-    let low = four(s, at + 4);
-    high * 4294967296 + low
+    u64::from_be_bytes([
+        s[at],
+        s[at + 1],
+        s[at + 2],
+        s[at + 3],
+        s[at + 4],
+        s[at + 5],
+        s[at + 6],
+        s[at + 7],
+    ])
 }
 
 // The n bits of s from bit at on.
@@ -87,13 +66,10 @@ pub fn take_fields(s: &[u8], ws: &[u8], vs: &mut [u64], spare: bool)
     ensures { vs.new ≡ fields ws.now s.now }
 {
     let mut at = 0;
-    let mut i = 0;
-    while i < ws.len() {
-        let w = count(ws[i]);
-        let v = one_field(s, at, w, spare);
-        vs[i] = v;
-        at += w;
-        i += 1;
+    for (i, w) in ws.iter().enumerate() {
+        let n = usize::from(*w);
+        vs[i] = one_field(s, at, n, spare);
+        at += n;
     }
 }
 
@@ -102,23 +78,13 @@ pub fn put_number(out: &mut [u8], at: usize, n: usize, x: u64)
     requires { (n ≤ 8) × (at + n ≤ length out.old) }
     ensures { out.new ≡ over at (bytes_of n x) out.old }
 {
+    // By hand: i is counted, since at + n - 1 - left for it took a twelfth more time for a record.
     let mut i = at;
-    let mut left = n;
-    while 0 < left {
-        left -= 1;
+    for left in (0..n).rev() {
         let b = (x >> (8 * left)) % 256;
         out[i] = b as u8;
         i += 1;
     }
-}
-
-// v in w bits after those of x. The shift is in two steps, since a word has no shift by 64.
-fn join(x: u64, w: usize, v: u64) -> u64
-    requires { (1 ≤ w) × (w ≤ 64) × (x * 2 ^ w + v < 2 ^ 64) }
-    ensures { result ≡ x * 2 ^ w + v }
-{
-    let half = x << (w - 1);
-    half * 2 + v
 }
 
 // Writes the record of the fields vs at the front of out. The have bits of acc wait for the rest of their byte.
@@ -130,36 +96,29 @@ pub fn put_fields(out: &mut [u8], ws: &[u8], vs: &[u64])
     let mut done = 0;
     let mut have = 0;
     let mut acc: u64 = 0;
-    let mut i = 0;
-    while i < ws.len() {
-        let w = count(ws[i]);
-        let x = join(acc, w, vs[i]);
+    for (i, w) in ws.iter().enumerate() {
+        let x = acc.unbounded_shl(u32::from(*w)) + vs[i];
+        let w = usize::from(*w);
         let n = (have + w) / 8;
         have = (have + w) % 8;
         put_number(out, done, n, x >> have);
         acc = x % (1 << have);
         done += n;
-        i += 1;
     }
 }
 
 // The index of the first value below its least or above its greatest, or the length.
+// Kept beside `judged` of the crate judge, which goes over rows: its promise stands, and two edits show it.
 pub fn first_outside(los: &[u64], his: &[u64], vs: &[u64]) -> usize
     requires { (length los.now ≡ length vs.now) × (length his.now ≡ length vs.now) }
     ensures { result ≡ first_outside los.now his.now vs.now }
 {
-    let mut i = 0;
-    while i < vs.len() {
-        let v = vs[i];
-        if v < los[i] {
+    for (i, &v) in vs.iter().enumerate() {
+        if v < los[i] || his[i] < v {
             return i;
         }
-        if his[i] < v {
-            return i;
-        }
-        i += 1;
     }
-    i
+    vs.len()
 }
 
 // Writes values among others, from index at on.
@@ -167,9 +126,5 @@ pub fn lay(values: &[u64], vs: &mut [u64], at: usize)
     requires { at + length values.now ≤ length vs.old }
     ensures { vs.new ≡ over at values.now vs.old }
 {
-    let mut i = 0;
-    while i < values.len() {
-        vs[at + i] = values[i];
-        i += 1;
-    }
+    vs[at..at + values.len()].copy_from_slice(values);
 }

@@ -1,5 +1,6 @@
 -- The gathering of all standing sources at a receiver: its steps, from the lowest slot on.
 -- No sum can pass the most that it may be: there is at most one share a source slot, and each is at most 10^15. Assumes nothing.
+use Rattle.std.specs.Prelude.{Ok, Err}
 use mathlib.Core.Path.{◌≡◌, refl, sym, ap, ◌∙◌}
 use mathlib.Core.Bool.{true}
 use mathlib.Core.Option.{Option, none, some}
@@ -15,19 +16,15 @@ use Rattle.road.specs.declared.Source.{Source}
 use Rattle.road.specs.declared.Receiver.{Receiver}
 use Rattle.road.specs.declared.Shares.{Shares}
 use Rattle.road.specs.declared.Bar.{Bar}
-use Rattle.road.specs.declared.Pair.{Pair}
-use Rattle.road.specs.declared.Pair.TheVariants.{Heard}
-use Rattle.road.specs.declared.Pair.TheVariants.{Barred as Bars}
+use Rattle.road.specs.Results.{Pair}
 use Rattle.road.specs.Pairs.{Pairing, most_share, share_in, Bounded}
 use Rattle.road.proofs.Pairs.{heard_most}
 use Rattle.account.specs.declared.Account.{Account}
 use Rattle.level.specs.Level.{top}
 use Rattle.account.specs.Account.{plus_of, room, nothing}
 use Rattle.store.specs.Store.{source_count}
-use Rattle.ledger.specs.declared.round.Stop.TheVariants.{Nowhere, At}
-use Rattle.ledger.specs.declared.gather.Gathered.{Gathered}
-use Rattle.ledger.specs.Lists.{present, sum_of, bar_at, or_bar, first_bar}
-use Rattle.ledger.specs.Ledger.{stop_of, Gathering}
+use Rattle.ledger.specs.Lists.{present, sum_of, bar_at, or_bar, first_bar, weigh}
+use Rattle.ledger.specs.Ledger.{unless_stopped, gathered}
 
 module _ (pair : Pairing) (bounded : Bounded pair) (r : Receiver) where
   abbrev pair_at : Source → Pair
@@ -83,7 +80,7 @@ module _ (pair : Pairing) (bounded : Bounded pair) (r : Receiver) where
         night = part_free 2 _ e g.night;
       }
 
-      pub gather_heard : (s : Source) (x : Shares) → get_or l i none ≡ some s → pair s r ≡ Heard x → Gathers l (plus_of sums x) (i + 1)
+      pub gather_heard : (s : Source) (x : Shares) → get_or l i none ≡ some s → pair s r ≡ Ok x → Gathers l (plus_of sums x) (i + 1)
       unfolding first_bar
       gather_heard s x e t =
           record {
@@ -93,7 +90,7 @@ module _ (pair : Pairing) (bounded : Bounded pair) (r : Receiver) where
             night = part_heard 2 _ x.night s e (ap (λ (q : Pair). share_in q 2) (sym t)) g.night;
           }
 
-      pub gather_room : (s : Source) (x : Shares) → i < source_count → pair s r ≡ Heard x → room sums x ≡ true
+      pub gather_room : (s : Source) (x : Shares) → i < source_count → pair s r ≡ Ok x → room sums x ≡ true
       gather_room s x b t =
           let k = heard_most pair bounded s r x t in
           let d : sums.day + x.day ≤ top = omega (arith, g.day.small, k 0) in
@@ -101,31 +98,20 @@ module _ (pair : Pairing) (bounded : Bounded pair) (r : Receiver) where
           let n : sums.night + x.night ≤ top = omega (arith, g.night.small, k 2) in
           rw (le-leb _ _ d, le-leb _ _ e, le-leb _ _ n)
 
-      pub gather_barred : (s : Source) (b : Bar) → get_or l i none ≡ some s → pair s r ≡ Bars b → first_bar pair_at 0 l ≡ some (bar_at i b)
+      pub gather_barred : (s : Source) (b : Bar) → get_or l i none ≡ some s → pair s r ≡ Err b → first_bar pair_at 0 l ≡ some (bar_at i b)
       unfolding first_bar
       gather_barred s b e t = g.stop ∙ ap (first_bar pair_at i) (rest_is (some s) e) ∙ ap (λ (q : Pair). or_bar i q (first_bar pair_at (suc i) (drop (i + 1) l))) t
 
-  pub gather_over : (l : List (Option Source)) (sums : Account) (i : ℕ) → length l ≤ i → i ≤ source_count → Gathers l sums i
-      → Gathering pair r l (record { stop = Nowhere; sums = sums })
+  pub gather_over : (l : List (Option Source)) (sums : Account) (i : ℕ) → length l ≤ i → Gathers l sums i → Ok sums ≡ gathered pair r l
   unfolding first_bar
-  gather_over l sums i h b g =
+  gather_over l sums i h g =
       let d : drop i l ≡ [] = drop_of_length-le l {i = i} h in
       let t : (p : ℕ) → total p (drop i l) ≡ 0 = λ p. ap (total p) d in
       let day : sums.day ≡ total 0 l = omega (arith, g.day.whole, t 0) in
       let evening : sums.evening ≡ total 1 l = omega (arith, g.evening.whole, t 1) in
       let night : sums.night ≡ total 2 l = omega (arith, g.night.whole, t 2) in
-      record {
-        stop = ap stop_of (sym (g.stop ∙ ap (first_bar pair_at i) d));
-        sums = λ z j. record { day = day j; evening = evening j; night = night j };
-        sound = λ z. rw (le-leb sums.day top (omega (arith, g.day.small)), le-leb sums.evening top (omega (arith, g.evening.small)), le-leb sums.night top (omega (arith, g.night.small)));
-      }
+      (λ j. Ok (record { day = day j; evening = evening j; night = night j }))
+      ∙ sym (ap (λ (b : Option Refusal). unless_stopped b (Ok (weigh pair (present l) r).sums)) (g.stop ∙ ap (first_bar pair_at i) d))
 
-  pub gather_stopped : (l : List (Option Source)) (g : Gathered) (why : Refusal) → g.stop ≡ At why → first_bar pair_at 0 l ≡ some why → Gathering pair r l g
-  gather_stopped l g why e f = record {
-    stop = e ∙ ap stop_of (sym f);
-    sums = λ z. absurd (nothing_is why (sym f ∙ z));
-    sound = λ z. absurd (nothing_is why (sym f ∙ z));
-  }
-    where
-      nothing_is : (w : Refusal) → some w ≡ none → ⊥
-      nothing_is w q = let z : ◌≡◌ {A = ℕ} 0 1 = cc in omega arith
+  pub gather_stopped : (l : List (Option Source)) (why : Refusal) → first_bar pair_at 0 l ≡ some why → Err why ≡ gathered pair r l
+  gather_stopped l why f = sym (ap (λ (b : Option Refusal). unless_stopped b (Ok (weigh pair (present l) r).sums)) f)

@@ -1,5 +1,5 @@
--- Laws of the ledger: what a slot tells, a source's round of the receivers, the gathering at a receiver, accounts afresh, the walls.
-pub mod Entries
+-- Laws of the ledger: a walk that stops, a source's round of the receivers, the gathering at a receiver, accounts afresh, the walls.
+pub mod Stops
 pub mod Rounds
 pub mod Seats
 pub mod Gathers

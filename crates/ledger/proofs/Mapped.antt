@@ -1,11 +1,11 @@
--- A loop that fills an array with what a function makes of a list: the first j are done. Assumes nothing.
+-- A loop that fills an array with what a function makes of a list, or turns each element into that: the first j are done. Assumes nothing.
 use mathlib.Core.Path.{◌≡◌, refl, sym, ap, ap₂, ◌∙◌}
 use mathlib.Core.List.{List, [], ◌∷◌, ◌++◌, map}
-use Prim.Native.Nat.{ℕ, ◌+◌, ◌≤◌, ◌<◌}
+use Prim.Native.Nat.{ℕ, zero, suc, ◌+◌, ◌≤◌, ◌<◌}
 use native.Mathlib.Numerals.{add-one}
 use native.Mathlib.Omega.{arith}
 use lib.ListN.{length, get_or, set, take, length-set}
-use lib.Seq.{take-suc, take-suc-set, take_all}
+use lib.Seq.{take-suc, take-suc-set}
 use Rattle.ledger.proofs.Rounds.{map_snoc}
 
 module _ {A B : Type 0} (f : A → B) (d : A) (src : List A) where
@@ -27,6 +27,34 @@ module _ {A B : Type 0} (f : A → B) (d : A) (src : List A) where
             ∙ sym (map_snoc f (take j src) (get_or src j d)) ∙ sym (ap (map f) v);
       }
 
-  pub filled_all : (out : List B) (j : ℕ) → length src ≤ j → Filled out j → out ≡ map f src
-  filled_all out j h g =
-      sym (take_all j out (omega (arith, g.count))) ∙ g.done ∙ ap (map f) (take_all j src h)
+-- ---- each element is turned into what the function makes of it, in its place
+
+module _ {A : Type 0} (f : A → A) where
+  pub turned : List A → ℕ → List A
+  turned l zero = l
+  turned [] (suc j) = []
+  turned (a ∷ l) (suc j) = f a ∷ turned l j
+
+  pub turned_none : (l : List A) → l ≡ turned l 0
+  unfolding turned
+  turned_none l = refl
+
+  pub turned_here : (d : A) (l : List A) (j : ℕ) → get_or (turned l j) j d ≡ get_or l j d
+  unfolding turned
+  turned_here d l zero = refl
+  turned_here d [] (suc j) = refl
+  turned_here d (a ∷ l) (suc j) = turned_here d l j
+
+  pub turned_next : (d : A) (l : List A) (j : ℕ) → set (turned l j) j (f (get_or l j d)) ≡ turned l (suc j)
+  unfolding turned
+  turned_next d [] zero = refl
+  turned_next d (a ∷ l) zero = refl
+  turned_next d [] (suc j) = refl
+  turned_next d (a ∷ l) (suc j) = ap (λ (m : List A). f a ∷ m) (turned_next d l j)
+
+  pub turned_all : (l : List A) (j : ℕ) → length l ≤ j → turned l j ≡ map f l
+  unfolding turned
+  turned_all [] zero h = refl
+  turned_all (a ∷ l) zero h = absurd (omega arith)
+  turned_all [] (suc j) h = refl
+  turned_all (a ∷ l) (suc j) h = ap (λ (m : List A). f a ∷ m) (turned_all l j (omega arith))

@@ -1,6 +1,7 @@
 -- A round of the receivers, for any change of a source slot: the steps of the first pass, and what the second pass writes.
 -- Assumes nothing.
-use mathlib.Core.Path.{◌≡◌, refl, sym, ap, ◌∙◌}
+use Rattle.std.specs.Prelude.{None, Some, Ok, Err}
+use mathlib.Core.Path.{◌≡◌, refl, sym, ap, ap₂, ◌∙◌}
 use mathlib.Core.Bool.{Bool, true, false, not, ◌&&◌}
 use mathlib.Core.Option.{Option, none, some}
 use mathlib.Core.List.{List, [], ◌∷◌, ◌++◌, map}
@@ -10,21 +11,17 @@ use native.Mathlib.Omega.{arith}
 use lib.ListN.{length, get_or, set, take, drop, replicate, length-set, length-replicate, get_or-replicate, drop_of_length-le}
 use lib.Seq.{take-suc, take-suc-set, drop-cons, take_all, get_or-set_other}
 use Rattle.answer.specs.declared.Refusal.{Refusal}
+use Rattle.answer.specs.declared.Refusal.TheVariants.{Damaged}
 use Rattle.road.specs.declared.Shares.{Shares}
 use Rattle.road.specs.declared.Bar.{Bar}
-use Rattle.road.specs.declared.Pair.{Pair}
-use Rattle.road.specs.declared.Pair.TheVariants.{Heard}
-use Rattle.road.specs.declared.Pair.TheVariants.{Barred as Bars}
+use Rattle.road.specs.Results.{Pair}
 use Rattle.account.specs.declared.Account.{Account}
 use Rattle.store.specs.declared.Held.{Held}
-use Rattle.store.specs.declared.Seat.{Seat}
-use Rattle.store.specs.Store.{receiver_count}
+use Rattle.store.specs.Store.{receiver_count, Seat}
 use Rattle.ledger.specs.declared.round.Turn.TheVariants.{Moved, Barred, Late}
-use Rattle.ledger.specs.declared.round.Stop.TheVariants.{Nowhere, At}
-use Rattle.ledger.specs.declared.round.Round.{Round}
 use Rattle.ledger.specs.Lists.{omap, present, every, bar_at, or_bar, first_bar}
 use Rattle.ledger.specs.Changes.{Change, follow, bar_of}
-use Rattle.ledger.specs.Ledger.{turn_of, vacant, to_seat, stop_of, Rounded, seated}
+use Rattle.ledger.specs.Ledger.{turn_of, to_seat, unless_stopped, in_time, rounded, seated}
 
 pub and_false : (b : Bool) → (b && false) ≡ false
 and_false true = refl
@@ -41,10 +38,6 @@ pub and_both : (a b : Bool) → a && b ≡ true → (a ≡ true) × (b ≡ true)
 and_both true b e = (refl, e)
 and_both false b e = absurd (false_true e)
 
-not_not : (b : Bool) → not (not b) ≡ b
-not_not true = refl
-not_not false = refl
-
 pub map_snoc : {A B : Type 0} (f : A → B) (l : List A) (a : A) → map f (l ++ (a ∷ [])) ≡ map f l ++ (f a ∷ [])
 map_snoc f [] a = refl
 map_snoc {B = B} f (x ∷ l) a = ap (λ (m : List B). f x ∷ m) (map_snoc f l a)
@@ -54,39 +47,39 @@ map_snoc {B = B} f (x ∷ l) a = ap (λ (m : List B). f x ∷ m) (map_snoc f l a
 module _ (c : Change) (x : Held) where
   -- it follows, if its pair is heard and its sums can
   pub record Follows (a : Account) : Type 0 where
-    pub heard : (h : Shares) × (c.tried x.who ≡ Heard h)
+    pub heard : (h : Shares) × (c.tried x.who ≡ Ok h)
     pub fits : c.fits x ≡ true
     pub sums : c.sums x ≡ a
 
   abbrev Stays : Type 0
-  Stays = ((h : Shares) × (c.tried x.who ≡ Heard h)) × (c.fits x ≡ false)
+  Stays = ((h : Shares) × (c.tried x.who ≡ Ok h)) × (c.fits x ≡ false)
 
   pub told_moved : (a : Account) → turn_of c x ≡ Moved a → Follows a
   unfolding turn_of
   told_moved a = go (c.tried x.who) (c.fits x) refl refl
     where
       go : (p : Pair) (f : Bool) → c.tried x.who ≡ p → c.fits x ≡ f → turn_of c x ≡ Moved a → Follows a
-      go (Heard h) true d e q = let w : Moved (c.sums x) ≡ Moved a = sym (rw (d, e, turn_of)) ∙ q in record { heard = (h, d); fits = e; sums = cc }
-      go (Heard h) false d e q = let w : Late ≡ Moved a = sym (rw (d, e, turn_of)) ∙ q in absurd (let z : ◌≡◌ {A = ℕ} 0 1 = cc in omega arith)
-      go (Bars b) f d e q = let w : Barred b ≡ Moved a = sym (rw (d, turn_of)) ∙ q in absurd (let z : ◌≡◌ {A = ℕ} 0 1 = cc in omega arith)
+      go (Ok h) true d e q = let w : Moved (c.sums x) ≡ Moved a = sym (rw (d, e, turn_of)) ∙ q in record { heard = (h, d); fits = e; sums = cc }
+      go (Ok h) false d e q = let w : Late ≡ Moved a = sym (rw (d, e, turn_of)) ∙ q in absurd (let z : ◌≡◌ {A = ℕ} 0 1 = cc in omega arith)
+      go (Err b) f d e q = let w : Barred b ≡ Moved a = sym (rw (d, turn_of)) ∙ q in absurd (let z : ◌≡◌ {A = ℕ} 0 1 = cc in omega arith)
 
   pub told_late : turn_of c x ≡ Late → Stays
   unfolding turn_of
   told_late = go (c.tried x.who) (c.fits x) refl refl
     where
       go : (p : Pair) (f : Bool) → c.tried x.who ≡ p → c.fits x ≡ f → turn_of c x ≡ Late → Stays
-      go (Heard h) true d e q = let w : Moved (c.sums x) ≡ Late = sym (rw (d, e, turn_of)) ∙ q in absurd (let z : ◌≡◌ {A = ℕ} 0 1 = cc in omega arith)
-      go (Heard h) false d e q = ((h, d), e)
-      go (Bars b) f d e q = let w : Barred b ≡ Late = sym (rw (d, turn_of)) ∙ q in absurd (let z : ◌≡◌ {A = ℕ} 0 1 = cc in omega arith)
+      go (Ok h) true d e q = let w : Moved (c.sums x) ≡ Late = sym (rw (d, e, turn_of)) ∙ q in absurd (let z : ◌≡◌ {A = ℕ} 0 1 = cc in omega arith)
+      go (Ok h) false d e q = ((h, d), e)
+      go (Err b) f d e q = let w : Barred b ≡ Late = sym (rw (d, turn_of)) ∙ q in absurd (let z : ◌≡◌ {A = ℕ} 0 1 = cc in omega arith)
 
-  pub told_barred : (b : Bar) → turn_of c x ≡ Barred b → c.tried x.who ≡ Bars b
+  pub told_barred : (b : Bar) → turn_of c x ≡ Barred b → c.tried x.who ≡ Err b
   unfolding turn_of
   told_barred b = go (c.tried x.who) (c.fits x) refl refl
     where
-      go : (p : Pair) (f : Bool) → c.tried x.who ≡ p → c.fits x ≡ f → turn_of c x ≡ Barred b → c.tried x.who ≡ Bars b
-      go (Heard h) true d e q = let w : Moved (c.sums x) ≡ Barred b = sym (rw (d, e, turn_of)) ∙ q in absurd (let z : ◌≡◌ {A = ℕ} 0 1 = cc in omega arith)
-      go (Heard h) false d e q = let w : Late ≡ Barred b = sym (rw (d, e, turn_of)) ∙ q in absurd (let z : ◌≡◌ {A = ℕ} 0 1 = cc in omega arith)
-      go (Bars a) f d e q = let w : Barred a ≡ Barred b = sym (rw (d, turn_of)) ∙ q in let k : a ≡ b = cc in d ∙ ap Bars k
+      go : (p : Pair) (f : Bool) → c.tried x.who ≡ p → c.fits x ≡ f → turn_of c x ≡ Barred b → c.tried x.who ≡ Err b
+      go (Ok h) true d e q = let w : Moved (c.sums x) ≡ Barred b = sym (rw (d, e, turn_of)) ∙ q in absurd (let z : ◌≡◌ {A = ℕ} 0 1 = cc in omega arith)
+      go (Ok h) false d e q = let w : Late ≡ Barred b = sym (rw (d, e, turn_of)) ∙ q in absurd (let z : ◌≡◌ {A = ℕ} 0 1 = cc in omega arith)
+      go (Err a) f d e q = let w : Barred a ≡ Barred b = sym (rw (d, turn_of)) ∙ q in let k : a ≡ b = cc in d ∙ ap Err k
 
 -- ---- the first pass
 
@@ -103,7 +96,7 @@ module _ (c : Change) where
     pub time : all_fit l ≡ (not late && all_fit (drop j l))
     pub count : length seats ≡ receiver_count
     pub done : late ≡ false → take j seats ≡ map to_seat (map (omap (follow c)) (take j l))
-    pub rest : (k : ℕ) → j ≤ k → k < receiver_count → get_or seats k vacant ≡ vacant
+    pub rest : (k : ℕ) → j ≤ k → k < receiver_count → get_or seats k None ≡ None
 
   module _ (l : List (Option Held)) (late : Bool) (seats : List Seat) (j : ℕ) (h : j < length l) (k : j < receiver_count) (g : Rounding l late seats j) where
     here : drop j l ≡ get_or l j none ∷ drop (j + 1) l
@@ -112,8 +105,8 @@ module _ (c : Change) where
     one_more : take (j + 1) l ≡ take j l ++ (get_or l j none ∷ [])
     one_more = rw add-one (take-suc l j none h)
 
-    seats_more : take (j + 1) seats ≡ take j seats ++ (get_or seats j vacant ∷ [])
-    seats_more = rw add-one (take-suc seats j vacant (omega (arith, g.count)))
+    seats_more : take (j + 1) seats ≡ take j seats ++ (get_or seats j None ∷ [])
+    seats_more = rw add-one (take-suc seats j None (omega (arith, g.count)))
 
     rest_is : (o : Option Held) → get_or l j none ≡ o → drop j l ≡ o ∷ drop (j + 1) l
     rest_is o e = here ∙ ap (λ (x : Option Held). x ∷ drop (j + 1) l) e
@@ -131,7 +124,7 @@ module _ (c : Change) where
     stop_next o e f = g.stop ∙ ap (first_bar tries j) (rest_is o e) ∙ f ∙ ap (λ (n : ℕ). first_bar tries n (drop (j + 1) l)) (sym (add-one j))
 
     -- a receiver whose pair is heard does not stop it
-    pass : (x : Held) → ((h : Shares) × (tries x ≡ Heard h)) → first_bar tries j (some x ∷ drop (j + 1) l) ≡ first_bar tries (suc j) (drop (j + 1) l)
+    pass : (x : Held) → ((h : Shares) × (tries x ≡ Ok h)) → first_bar tries j (some x ∷ drop (j + 1) l) ≡ first_bar tries (suc j) (drop (j + 1) l)
     unfolding first_bar
     pass x p = ap (λ (q : Pair). or_bar j q (first_bar tries (suc j) (drop (j + 1) l))) p.1
 
@@ -149,9 +142,9 @@ module _ (c : Change) where
     }
 
     pub round_moved : (x : Held) (a : Account) → get_or l j none ≡ some x → turn_of c x ≡ Moved a
-        → Rounding l late (set seats j (record { used = true; held = record { who = x.who; sums = a } })) (j + 1)
+        → Rounding l late (set seats j (Some (record { who = x.who; sums = a }))) (j + 1)
     round_moved x a e t =
-        let seat : Seat = record { used = true; held = record { who = x.who; sums = a } } in
+        let seat : Seat = Some (record { who = x.who; sums = a }) in
         let m : j < length seats = omega (arith, g.count) in
         let f = told_moved c x a t in
         record {
@@ -160,7 +153,7 @@ module _ (c : Change) where
           count = length-set seats j seat ∙ g.count;
           done = done_more (set seats j seat) (some x) e
               (rw add-one (take-suc-set seats j seat m) ∙ ap (λ (a : Account). take j seats ++ (to_seat (some (record { who = x.who; sums = a })) ∷ [])) (sym f.sums));
-          rest = λ n a b. get_or-set_other seats j n seat vacant (λ q. omega arith) ∙ g.rest n (omega arith) b;
+          rest = λ n a b. get_or-set_other seats j n seat None (λ q. omega arith) ∙ g.rest n (omega arith) b;
         }
 
     pub round_late : (x : Held) → get_or l j none ≡ some x → turn_of c x ≡ Late → Rounding l true seats (j + 1)
@@ -179,37 +172,38 @@ module _ (c : Change) where
     round_barred x b e t =
         g.stop ∙ ap (first_bar tries j) (rest_is (some x) e) ∙ ap (λ (q : Pair). or_bar j q (first_bar tries (suc j) (drop (j + 1) l))) (told_barred c x b t)
 
-  pub round_begun : (l : List (Option Held)) → Rounding l false (replicate receiver_count vacant) 0
+  pub round_begun : (l : List (Option Held)) → Rounding l false (replicate receiver_count None) 0
   round_begun l = record {
     stop = refl;
     time = refl;
-    count = length-replicate receiver_count vacant;
+    count = length-replicate {A = Seat} receiver_count None;
     done = λ z. refl;
-    rest = λ n a b. get_or-replicate receiver_count n vacant vacant b;
+    rest = λ n a b. get_or-replicate {A = Seat} receiver_count n None None b;
   }
 
-  pub round_over : (l : List (Option Held)) (late : Bool) (seats : List Seat) (j : ℕ) → length l ≡ receiver_count → receiver_count ≤ j → Rounding l late seats j
-      → Rounded c l (record { stop = Nowhere; late = late; seats = seats })
-  unfolding first_bar
-  round_over l late seats j n h g =
-      let d : drop j l ≡ [] = drop_of_length-le l {i = j} (omega arith) in
-      let t : take j l ≡ l = take_all j l (omega arith) in
-      let u : take j seats ≡ seats = take_all j seats (omega (arith, g.count)) in
-      record {
-        stop = ap stop_of (sym (g.stop ∙ ap (first_bar tries j) d));
-        late = λ z. sym (not_not late) ∙ ap not (sym (g.time ∙ ap (λ (m : List (Option Held)). not late && all_fit m) d ∙ and_true (not late)));
-        seats = λ z f. sym u ∙ g.done f ∙ ap (λ (m : List (Option Held)). map to_seat (map (omap (follow c)) m)) t;
-      }
+  module _ (l : List (Option Held)) (late : Bool) (seats : List Seat) (j : ℕ) (n : length l ≡ receiver_count) (h : receiver_count ≤ j) (g : Rounding l late seats j) where
+    none_left : drop j l ≡ []
+    none_left = drop_of_length-le l {i = j} (omega arith)
 
-  pub round_stopped : (l : List (Option Held)) (r : Round) (why : Refusal) → r.stop ≡ At why → bar_of c l ≡ some why → Rounded c l r
-  round_stopped l r why e f = record {
-    stop = e ∙ ap stop_of (sym f);
-    late = λ z. absurd (nowhere why (sym f ∙ z));
-    seats = λ z. absurd (nowhere why (sym f ∙ z));
-  }
-    where
-      nowhere : (w : Refusal) → some w ≡ none → ⊥
-      nowhere w q = let z : ◌≡◌ {A = ℕ} 0 1 = cc in omega arith
+    free : bar_of c l ≡ none
+    unfolding first_bar
+    free = g.stop ∙ ap (first_bar tries j) none_left
+
+    fits : all_fit l ≡ not late
+    fits = g.time ∙ ap (λ (m : List (Option Held)). not late && all_fit m) none_left ∙ and_true (not late)
+
+    pub round_late_over : late ≡ true → Err Damaged ≡ rounded c l
+    round_late_over e = sym (ap₂ (λ (b : Option Refusal) (t : Bool). unless_stopped b (in_time t (map to_seat (map (omap (follow c)) l)))) free (fits ∙ ap not e))
+
+    pub round_over : late ≡ false → Ok seats ≡ rounded c l
+    round_over e =
+        let t : take j l ≡ l = take_all j l (omega arith) in
+        let u : take j seats ≡ seats = take_all j seats (omega (arith, g.count)) in
+        ap Ok (sym u ∙ g.done e ∙ ap (λ (m : List (Option Held)). map to_seat (map (omap (follow c)) m)) t)
+        ∙ sym (ap₂ (λ (b : Option Refusal) (t : Bool). unless_stopped b (in_time t (map to_seat (map (omap (follow c)) l)))) free (fits ∙ ap not e))
+
+  pub round_stopped : (l : List (Option Held)) (why : Refusal) → bar_of c l ≡ some why → Err why ≡ rounded c l
+  round_stopped l why f = sym (ap (λ (b : Option Refusal). unless_stopped b (in_time (all_fit l) (map to_seat (map (omap (follow c)) l)))) f)
 
 -- ---- the second pass
 

@@ -1,13 +1,12 @@
 -- What a change of one slot is to the receivers: a source goes and another comes, or the walls are others.
 -- Another change is another definition here; the rounds and the book's proofs are for any of them.
-use Rattle.std.specs.Prelude.{Bool, true, ◌&&◌, List, [], ◌∷◌}
+use Rattle.std.specs.Prelude.{Bool, true, ◌&&◌, List, [], ◌∷◌, Ok, Err}
 use Rattle.std.proofs.Math.Option.{Option, none, some}
 use Rattle.answer.specs.declared.Refusal.{Refusal}
 use Rattle.road.specs.declared.Source.{Source}
 use Rattle.road.specs.declared.Receiver.{Receiver}
 use Rattle.road.specs.declared.Shares.{Shares}
-use Rattle.road.specs.declared.Pair.{Pair}
-use Rattle.road.specs.declared.Pair.TheVariants.{Heard, Barred}
+use Rattle.road.specs.Results.{Pair}
 use Rattle.road.specs.Pairs.{Pairing, is_heard, no_shares, brought}
 use Rattle.account.specs.declared.Account.{Account}
 use Rattle.store.specs.declared.Held.{Held}
@@ -32,7 +31,7 @@ bar_of c l = first_bar (λ (x : Held). c.tried x.who) 0 l
 
 -- the pair of a source that is there or not: nobody is heard everywhere, and brings nothing
 abbrev pub pair_by : Pairing → Option Source → Receiver → Pair
-pair_by pair none r = Heard no_shares
+pair_by pair none r = Ok no_shares
 pair_by pair (some s) r = pair s r
 
 -- an account that the shares `less` leave and `more` enter
@@ -54,11 +53,11 @@ exchange pair goes comes = record {
 
 -- what the sources make of a point: the bar of the first that is barred there
 abbrev pub onward : Pair → Pair → Pair
-onward (Heard h) q = q
-onward (Barred b) q = Barred b
+onward (Ok h) q = q
+onward (Err b) q = Err b
 
 abbrev pub together : Pairing → List Source → Receiver → Pair
-together pair [] r = Heard no_shares
+together pair [] r = Ok no_shares
 together pair (s ∷ ss) r = onward (pair s r) (together pair ss r)
 
 -- the walls are others: every sum is worked out afresh, by the pairing among them

@@ -1,6 +1,6 @@
 -- Lists of slots, the first bar of a party against the slots of the other, and an account worked out afresh.
 -- A slot is used or not; lists begin with the slot 0.
-use Rattle.std.specs.Prelude.{ℕ, suc, ◌+◌, Bool, true, ◌&&◌, List, [], ◌∷◌}
+use Rattle.std.specs.Prelude.{ℕ, suc, ◌+◌, Bool, true, ◌&&◌, List, [], ◌∷◌, Ok, Err}
 use Rattle.std.proofs.Math.Option.{Option, none, some}
 use Rattle.answer.specs.declared.Refusal.{Refusal}
 use Rattle.answer.specs.declared.Refusal.TheVariants.{TooNear, TooFar, TooLong, TooLoud, TwoWalls}
@@ -8,8 +8,7 @@ use Rattle.road.specs.declared.Source.{Source}
 use Rattle.road.specs.declared.Receiver.{Receiver}
 use Rattle.road.specs.declared.Bar.{Bar}
 use Rattle.road.specs.declared.Bar.TheVariants.{Near, Far, Long, Loud, Walls}
-use Rattle.road.specs.declared.Pair.{Pair}
-use Rattle.road.specs.declared.Pair.TheVariants.{Heard, Barred}
+use Rattle.road.specs.Results.{Pair}
 use Rattle.road.specs.Pairs.{Pairing, share_in}
 use Rattle.store.specs.declared.Held.{Held}
 
@@ -50,8 +49,8 @@ bar_at j Loud = TooLoud j
 bar_at j Walls = TwoWalls j
 
 abbrev pub or_bar : ℕ → Pair → Option Refusal → Option Refusal
-or_bar j (Heard h) o = o
-or_bar j (Barred b) o = some (bar_at j b)
+or_bar j (Ok h) o = o
+or_bar j (Err b) o = some (bar_at j b)
 
 module _ {A : Type 0} where
   -- the first pair that is barred, from the lowest slot on

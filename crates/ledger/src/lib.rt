@@ -7,14 +7,13 @@ pub mod gather;
 pub mod round;
 
 use road::Bar;
-use store::Seat;
+use store::Held;
+
+// A receiver's slot as it would be.
+pub type Seat = Option<Held>;
 
 // Whether a receiver is blocked: by the first source that is barred there.
-#[derive(Clone, Copy)]
-pub enum Block {
-    Nothing,
-    By(Bar),
-}
+pub type Block = Option<Bar>;
 
 // A receiver with the sums of the sources that were heard so far.
 #[derive(Clone, Copy)]

@@ -1,9 +1,8 @@
 -- What is promised of the table, of energies and of levels (METHOD 5), for numbers of any size.
 -- `of_levels` in proofs/Promises.antt is the proof of all of it.
-use Rattle.std.specs.Prelude.{◌≡◌, ℕ, ◌+◌, ◌-◌, ◌*◌, ◌/◌, ◌^◌, ◌<◌, ◌≤◌, length}
+use Rattle.std.specs.Prelude.{◌≡◌, ℕ, ◌+◌, ◌-◌, ◌*◌, ◌/◌, ◌^◌, ◌<◌, ◌≤◌, length, Some, None}
 use Rattle.level.specs.Table.{table, Z, Nearest}
 use Rattle.level.specs.Level.{energy_of, tens_below, energy_at, level_of, loudness_of}
-use Rattle.level.specs.declared.Loudness.TheVariants.{Quiet, Level}
 
 pub record Promises : Type 0 where
   -- the table has one thousand entries, and each is the whole number nearest to 10^6 times ten to the power k/1000:
@@ -23,9 +22,9 @@ pub record Promises : Type 0 where
   pub at_most : (s : ℕ) → 1000000 ≤ s → energy_of (level_of s) ≤ s
   pub greatest : (s l : ℕ) → 1000000 ≤ s → energy_of l ≤ s → l ≤ level_of s
   -- below 10^6, and only there, there is no level
-  pub quiet : (s : ℕ) → s < 1000000 → loudness_of s ≡ Quiet
-  pub quiet_only : (s : ℕ) → loudness_of s ≡ Quiet → s < 1000000
-  pub heard : (s : ℕ) → 1000000 ≤ s → loudness_of s ≡ Level (level_of s)
+  pub quiet : (s : ℕ) → s < 1000000 → loudness_of s ≡ None
+  pub quiet_only : (s : ℕ) → loudness_of s ≡ None → s < 1000000
+  pub heard : (s : ℕ) → 1000000 ≤ s → loudness_of s ≡ Some (level_of s)
   -- E is strictly rising, LV is rising, and LV(E(L)) is L
   pub energy_rising : (l m : ℕ) → l < m → energy_of l < energy_of m
   pub level_rises : (s t : ℕ) → 1000000 ≤ s → s ≤ t → level_of s ≤ level_of t

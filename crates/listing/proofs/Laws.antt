@@ -1,5 +1,6 @@
 -- The two digits of a slot or of a refusal's number have its value; no line is longer than the 64 bytes that it is given.
 -- Assumes nothing.
+use Rattle.std.specs.Prelude.{Some, None}
 use Prim.Native.Nat.{ℕ, ◌/◌, ◌^◌, ◌≤◌, ◌<◌}
 use mathlib.Core.Path.{◌≡◌, refl}
 use native.Mathlib.Omega.{arith}
@@ -7,8 +8,7 @@ use lib.ListN.{length, length-append}
 use Rattle.answer.specs.declared.Refusal.{Refusal}
 use Rattle.answer.specs.declared.Refusal.TheVariants.{Damaged, CutShort, UnknownKind, Leftover, Field, SlowSurface, QuietTruck, Taken, Vacant, TooNear, TooFar, TooLong, TooLoud, TwoWalls}
 use Rattle.answer.specs.Table.{number_of}
-use Rattle.index.specs.declared.Index.{Index}
-use Rattle.index.specs.declared.Index.TheVariants.{Quiet, Tenths}
+use Rattle.index.specs.Index.{Index}
 use Rattle.text.specs.Text.{decimal, value_after}
 use Rattle.text.proofs.Decimal.{length_decimal, length_count}
 use Rattle.listing.specs.Listing.{two_digits, level_text, ask_line, refusal_line, end_line}
@@ -38,12 +38,12 @@ length_whole t h = length_decimal 8 (t / 10) (omega arith)
 
 -- an index in 32 bits
 abbrev pub Fits : Index → Type 0
-Fits Quiet = Unit
-Fits (Tenths t) = t < 2 ^ 32
+Fits None = Unit
+Fits (Some t) = t < 2 ^ 32
 
 pub length_level : (x : Index) → Fits x → length (level_text x) ≤ 11
-length_level Quiet h = omega arith
-length_level (Tenths t) h = rw length-append (omega (arith, length_whole t h))
+length_level None h = omega arith
+length_level (Some t) h = rw length-append (omega (arith, length_whole t h))
 
 -- no line is longer than 64 bytes
 pub ask_length : (n slot : ℕ) (den night : Index) → n < 2 ^ 64 → Fits den → Fits night → length (ask_line n slot den night) ≤ 64

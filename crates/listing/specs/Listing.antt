@@ -1,12 +1,11 @@
 -- The lines of the listing (METHOD 10), as lists of byte values; a comment has the text that they are in ASCII.
 -- A record that is placed or withdrawn has no line.
-use Rattle.std.specs.Prelude.{ℕ, ◌/◌, cond, List, [], ◌∷◌, ◌++◌, ltb, length, drop}
+use Rattle.std.specs.Prelude.{ℕ, ◌/◌, cond, List, [], ◌∷◌, ◌++◌, ltb, length, drop, Ok, Err, Some, None}
 use Rattle.answer.specs.declared.Refusal.{Refusal}
 use Rattle.answer.specs.Table.{number_of}
-use Rattle.index.specs.declared.Index.{Index}
-use Rattle.index.specs.declared.Index.TheVariants.{Quiet, Tenths}
-use Rattle.service.specs.declared.Outcome.{Outcome}
-use Rattle.service.specs.declared.Outcome.TheVariants.{Done, Levels, Refused}
+use Rattle.index.specs.Index.{Index}
+use Rattle.service.specs.Service.{Outcome}
+use Rattle.service.specs.declared.Report.TheVariants.{Done, Levels}
 use Rattle.text.specs.Text.{digit, decimal}
 
 -- 'The listing': a slot or the number of a refusal, each below 100, in two digits
@@ -15,8 +14,8 @@ two_digits n = digit (n / 10) ∷ digit n ∷ []
 
 -- 'The listing': a level has its whole part, a point and one digit; quiet is --.-
 abbrev pub level_text : Index → List ℕ
-level_text Quiet = 45 ∷ 45 ∷ 46 ∷ 45 ∷ []  -- --.-
-level_text (Tenths t) = decimal (t / 10) ++ (46 ∷ digit t ∷ [])  -- . and the tenth
+level_text None = 45 ∷ 45 ∷ 46 ∷ 45 ∷ []  -- --.-
+level_text (Some t) = decimal (t / 10) ++ (46 ∷ digit t ∷ [])  -- . and the tenth
 
 -- 'The listing': an ask prints n, R and two-digit slot, L_DEN, L_Night
 unfoldable pub ask_line : ℕ → ℕ → Index → Index → List ℕ
@@ -36,9 +35,9 @@ refusal_line n why =
 
 -- 'The listing': what a record prints, by its outcome
 abbrev pub line_of : ℕ → Outcome → List ℕ
-line_of n Done = []
-line_of n (Levels slot den night) = ask_line n slot den night
-line_of n (Refused why) = refusal_line n why
+line_of n (Ok Done) = []
+line_of n (Ok (Levels slot den night)) = ask_line n slot den night
+line_of n (Err why) = refusal_line n why
 
 -- 'The listing': the last line is END and the number of records tried
 unfoldable pub end_line : ℕ → List ℕ

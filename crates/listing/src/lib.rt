@@ -2,14 +2,13 @@
 // A line is written at the front of the bytes that the caller lends; with less room than every line has nothing is written.
 #![tactic(auto)]
 
-ghost use Rattle.std.specs.Prelude.{◌≡◌, ◌∷◌, ◌++◌, ◌+◌, ◌≤◌, length};
+ghost use Rattle.std.specs.Prelude.{◌≡◌, ◌∷◌, ◌++◌, ◌+◌, ◌≤◌, length, Some};
 ghost use Rattle.listing.specs.Listing.{two_digits, level_text, ask_line, refusal_line, end_line, line_of, put};
-ghost use Rattle.index.specs.declared.Index.TheVariants.{Tenths};
 ghost use Rattle.text.specs.Text.{written};
 
 use answer::Refusal;
 use index::Index;
-use service::Outcome;
+use service::{Outcome, Report};
 
 // The room that every line has.
 const LINE_ROOM: usize = 64;
@@ -26,10 +25,10 @@ fn put_mark(out: &mut [u8], at: usize, mark: &[u8], x: u64) -> usize
 // Writes a space and a level: the whole part, a point and one digit.
 fn put_tenths(out: &mut [u8], at: usize, tenths: u32) -> usize
     requires { at + 21 ≤ length out.old }
-    ensures out_after { (result, out.new) ≡ written at (32 ∷ level_text (Tenths tenths)) out.old }
+    ensures out_after { (result, out.new) ≡ written at (32 ∷ level_text (Some tenths)) out.old }
     ensures upper_bound { result ≤ at + 12 }
 {
-    let t = tenths as u64;
+    let t = u64::from(tenths);
     let at = text::put_text(out, at, b" ");
     let at = text::put_decimal(out, at, t / 10);
     let at = text::put_text(out, at, b".");
@@ -43,8 +42,8 @@ fn put_level(out: &mut [u8], at: usize, index: Index) -> usize
     ensures upper_bound { result ≤ at + 12 }
 {
     match index {
-        Index::Quiet => text::put_text(out, at, b" --.-"),
-        Index::Tenths(tenths) => put_tenths(out, at, tenths),
+        None => text::put_text(out, at, b" --.-"),
+        Some(tenths) => put_tenths(out, at, tenths),
     }
 }
 
@@ -56,7 +55,7 @@ pub fn ask_line(n: u64, slot: u16, den: Index, night: Index, out: &mut [u8]) -> 
         return 0;
     }
     let at = text::put_decimal(out, 0, n);
-    let at = put_mark(out, at, b" R", slot as u64);
+    let at = put_mark(out, at, b" R", u64::from(slot));
     let at = put_level(out, at, den);
     let at = put_level(out, at, night);
     text::put_text(out, at, b"\n")
@@ -70,7 +69,7 @@ pub fn refusal_line(n: u64, why: Refusal, out: &mut [u8]) -> usize
         return 0;
     }
     let at = text::put_decimal(out, 0, n);
-    let at = put_mark(out, at, b" E", answer::number(why) as u64);
+    let at = put_mark(out, at, b" E", u64::from(answer::number(why)));
     text::put_text(out, at, b"\n")
 }
 
@@ -91,8 +90,8 @@ pub fn line(n: u64, outcome: Outcome, out: &mut [u8]) -> usize
     ensures { (result, out.new) ≡ put (line_of n outcome) out.old }
 {
     match outcome {
-        Outcome::Done => 0,
-        Outcome::Levels(slot, den, night) => ask_line(n, slot, den, night, out),
-        Outcome::Refused(why) => refusal_line(n, why, out),
+        Ok(Report::Done) => 0,
+        Ok(Report::Levels(slot, den, night)) => ask_line(n, slot, den, night, out),
+        Err(why) => refusal_line(n, why, out),
     }
 }

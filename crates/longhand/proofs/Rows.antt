@@ -117,6 +117,21 @@ module _ (q n i place : ℕ) (l : Line) (from at : ℕ) (s o : List ℕ) (f : So
       go zero e = absurd (omega (arith, e))
       go (suc j) e = (j, refl, e ∙ next_place j)
 
+  -- as long as rows are to come there is a place, and then none
+  pub has_place : i < n → 0 < place
+  has_place h = go f.k f.place_is f.count
+    where
+      go : (k : ℕ) → place ≡ 4 ^ k / 4 → i + k ≡ n → 0 < place
+      go zero e c = absurd (omega (arith, c, h))
+      go (suc j) e c = omega (arith, e, next_place j, one-le-pow j 4 (omega arith))
+
+  pub no_place : n ≤ i → place ≤ 0
+  no_place h = go f.k f.place_is f.count
+    where
+      go : (k : ℕ) → place ≡ 4 ^ k / 4 → i + k ≡ n → place ≤ 0
+      go zero e c = omega (arith, e)
+      go (suc j) e c = absurd (omega (arith, c, h))
+
   pub one_more : 0 < place → i + 1 ≤ n
   one_more h = omega (arith, (to_come h).1, f.count)
 

@@ -5,123 +5,92 @@
 mod reading;
 mod sheet;
 
-ghost use Rattle.std.specs.Prelude.{◌≤◌, length};
-
 use reading::Reading;
 use std::io::Read;
 
-// What is read of the line so far, whether all sheets before it could be written, and whether the input is over.
+// Why it does not go on.
 #[derive(Clone, Copy)]
-struct Stand {
-    reading: Reading,
-    told: bool,
-    over: bool,
-}
-
-// Writes the first n bytes.
-fn send(rt: &HostRuntime, bytes: &[u8], n: usize) -> bool
-    requires { n ≤ length bytes.now }
-{
-    rt.write_all(&bytes[..n]).is_ok()
+enum Fault {
+    // A line is no whole number below 2^64.
+    Wrong,
+    // A sheet could not be written.
+    Unwritten,
 }
 
 // Writes the sheet of the number that was read, if one was.
-fn tell(rt: &HostRuntime, out: &mut [u8; 4096], reading: Reading) -> bool {
+fn tell(rt: &HostRuntime, out: &mut [u8; 4096], reading: Reading) -> Result<(), Fault> {
     let Reading::Number(q) = reading else {
-        return true;
+        return Ok(());
     };
     let n = sheet::write(q, out);
-    send(rt, out, n)
+    rt.write_all(&out[..n]).map_err(|_| Fault::Unwritten)
 }
 
 // Takes one byte: a line feed ends the number, any other byte goes on with it.
-fn take(rt: &HostRuntime, out: &mut [u8; 4096], reading: Reading, byte: u8) -> Stand {
-    if byte == 10 {
-        let told = tell(rt, out, reading);
-        return Stand {
-            reading: Reading::Nothing,
-            told,
-            over: false,
-        };
+fn take(
+    rt: &HostRuntime,
+    out: &mut [u8; 4096],
+    reading: Reading,
+    byte: u8,
+) -> Result<Reading, Fault> {
+    if byte == b'\n' {
+        tell(rt, out, reading)?;
+        return Ok(Reading::Nothing);
     }
-    Stand {
-        reading: reading::fed(reading, byte),
-        told: true,
-        over: false,
-    }
-}
-
-// Whether to go on: the line is not wrong so far, and the sheets could be written.
-fn good(stand: Stand) -> bool {
-    let reading = stand.reading;
-    match reading {
-        Reading::Wrong => false,
-        _ => stand.told,
+    match reading::fed(reading, byte) {
+        Reading::Wrong => Err(Fault::Wrong),
+        more => Ok(more),
     }
 }
 
 // Takes all bytes that were read, up to the first that is wrong.
-fn take_all(rt: &HostRuntime, input: &[u8], out: &mut [u8; 4096], reading: Reading) -> Stand {
-    let mut stand = Stand {
-        reading,
-        told: true,
-        over: false,
-    };
-    let mut i = 0;
-    while i < input.len() {
-        let so_far = stand.reading;
-        stand = take(rt, out, so_far, input[i]);
-        if !good(stand) {
-            return stand;
-        }
-        i += 1;
+fn take_all(
+    rt: &HostRuntime,
+    input: &[u8],
+    out: &mut [u8; 4096],
+    mut reading: Reading,
+) -> Result<Reading, Fault> {
+    for byte in input {
+        reading = take(rt, out, reading, *byte)?;
     }
-    stand
+    Ok(reading)
 }
 
-// Says on standard error why it does not go on.
-fn complain(rt: &HostRuntime, told: bool) {
-    if told {
-        let _ = rt.eprintln("longhand: not a whole number below 2^64");
-    } else {
-        let _ = rt.eprintln("longhand: standard output cannot be written");
-    }
-}
-
-// Reads as much as there is room for, and takes it. The last line may lack its line feed.
-fn read_on(rt: &HostRuntime, input: &mut [u8], out: &mut [u8; 4096], reading: Reading) -> Stand {
+// Reads as much as there is room for, and takes it. At the end of the input there is nothing more to read; the last line may lack its line feed.
+fn read_on(
+    rt: &HostRuntime,
+    input: &mut [u8],
+    out: &mut [u8; 4096],
+    reading: Reading,
+) -> Result<Option<Reading>, Fault> {
     let n = rt.stdin().read(input).unwrap_or(0);
     if n == 0 {
-        let told = tell(rt, out, reading);
-        return Stand {
-            reading: Reading::Nothing,
-            told,
-            over: true,
-        };
+        tell(rt, out, reading)?;
+        return Ok(None);
     }
-    take_all(rt, &input[..n], out, reading)
+    let more = take_all(rt, &input[..n], out, reading)?;
+    Ok(Some(more))
 }
 
-// A proved loop has to end, and nothing says that the input does: the loop counts down from a number that no run uses up.
-fn run(rt: &HostRuntime, input: &mut [u8], out: &mut [u8; 4096]) {
+// A proved loop has to end, and nothing says that the input does: the loop counts to a number that no run comes to.
+fn run(rt: &HostRuntime, input: &mut [u8], out: &mut [u8; 4096]) -> Result<(), Fault> {
     let mut reading = Reading::Nothing;
-    let mut turns = u64::MAX;
-    while 0 < turns {
-        let stand = read_on(rt, input, out, reading);
-        if !good(stand) {
-            complain(rt, stand.told);
-            return;
-        }
-        if stand.over {
-            return;
-        }
-        reading = stand.reading;
-        turns -= 1;
+    for _ in 0..u64::MAX {
+        let Some(more) = read_on(rt, input, out, reading)? else {
+            return Ok(());
+        };
+        reading = more;
     }
+    Ok(())
 }
 
 fn main(rt: HostRuntime) {
     let mut input = [0u8; 65536];
     let mut out = [0u8; 4096];
-    run(&rt, &mut input, &mut out);
+    let why = match run(&rt, &mut input, &mut out) {
+        Ok(()) => return,
+        Err(Fault::Wrong) => "longhand: not a whole number below 2^64",
+        Err(Fault::Unwritten) => "longhand: standard output cannot be written",
+    };
+    let _ = rt.eprintln(why);
 }

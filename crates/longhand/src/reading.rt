@@ -15,17 +15,17 @@ pub enum Reading {
 fn with_digit(q: u64, byte: u8) -> Reading
     ensures { result ≡ with_digit q byte }
 {
-    if byte < 48 {
+    if !byte.is_ascii_digit() {
         return Reading::Wrong;
     }
-    if 57 < byte {
+    let digit = u64::from(byte - b'0');
+    let Some(tens) = q.checked_mul(10) else {
         return Reading::Wrong;
-    }
-    let digit = (byte - 48) as u64;
-    if (u64::MAX - digit) / 10 < q {
+    };
+    let Some(more) = tens.checked_add(digit) else {
         return Reading::Wrong;
-    }
-    Reading::Number(q * 10 + digit)
+    };
+    Reading::Number(more)
 }
 
 // What is read with one byte more.

@@ -14,10 +14,7 @@ use root::Line;
 fn column(lead: u8, v: u64) -> u8
     ensures { result ≡ mark lead v }
 {
-    if v == 0 {
-        return lead;
-    }
-    (48 + v % 2) as u8
+    if v == 0 { lead } else { b'0' + (v % 2) as u8 }
 }
 
 // The number v in w binary columns, the last of them first.
@@ -25,12 +22,10 @@ fn put_columns(out: &mut [u8], at: usize, lead: u8, w: usize, v: u64) -> usize
     requires { at + w ≤ length out.old }
     ensures { (result, out.new) ≡ written at (columns lead w v) out.old }
 {
-    let mut left = w;
     let mut rest = v;
-    while 0 < left {
-        left -= 1;
+    for left in (0..w).rev() {
         out[at + left] = column(lead, rest);
-        rest = rest / 2;
+        rest /= 2;
     }
     at + w
 }
@@ -40,7 +35,7 @@ fn put_bits(out: &mut [u8], at: usize, w: usize, v: u64) -> usize
     requires { at + w ≤ length out.old }
     ensures { (result, out.new) ≡ written at (bits w v) out.old }
 {
-    put_columns(out, at, 48, w, v)
+    put_columns(out, at, b'0', w, v)
 }
 
 // So many blanks.
@@ -48,7 +43,7 @@ fn put_blanks(out: &mut [u8], at: usize, w: usize) -> usize
     requires { at + w ≤ length out.old }
     ensures { (result, out.new) ≡ written at (blanks w) out.old }
 {
-    put_columns(out, at, 32, w, 0)
+    put_columns(out, at, b' ', w, 0)
 }
 
 // The number v at the right of w columns, without leading zeros.
@@ -56,8 +51,8 @@ fn put_short(out: &mut [u8], at: usize, w: usize, v: u64) -> usize
     requires { (1 ≤ w) × (at + w ≤ length out.old) }
     ensures { (result, out.new) ≡ written at (short w v) out.old }
 {
-    let at = put_columns(out, at, 32, w - 1, v / 2);
-    put_columns(out, at, 48, 1, v)
+    let at = put_columns(out, at, b' ', w - 1, v / 2);
+    put_columns(out, at, b'0', 1, v)
 }
 
 // One byte.
@@ -73,7 +68,7 @@ fn put_byte(out: &mut [u8], at: usize, b: u8) -> usize
 fn pairs(q: u64) -> usize
     ensures { result ≡ pairs_of q }
 {
-    (32 - u64::leading_zeros(q) / 2) as usize
+    (32 - q.leading_zeros() / 2) as usize
 }
 
 // The first line: the number in binary, n pairs of bits.
@@ -83,7 +78,7 @@ fn put_first(out: &mut [u8], n: usize, q: u64) -> usize
 {
     let at = put_blanks(out, 0, 4);
     let at = put_bits(out, at, 2 * n, q);
-    put_byte(out, at, 10)
+    put_byte(out, at, b'\n')
 }
 
 // Row i of n: the two bits brought down, what is left, and the root so far.
@@ -95,7 +90,7 @@ fn put_row(out: &mut [u8], at: usize, n: usize, i: usize, two: u64, line: Line) 
     let at = put_short(out, at, 2 * i + 2, line.left);
     let at = put_blanks(out, at, 2 * (n - i) + 2);
     let at = put_bits(out, at, i, line.root);
-    put_byte(out, at, 10)
+    put_byte(out, at, b'\n')
 }
 
 // A blank, a sign, a blank and a number.
@@ -103,9 +98,9 @@ fn put_term(out: &mut [u8], at: usize, sign: u8, x: u64) -> usize
     requires { at + 23 ≤ length out.old }
     ensures { (result, out.new) ≡ written at (term sign x) out.old }
 {
-    let at = put_byte(out, at, 32);
+    let at = put_byte(out, at, b' ');
     let at = put_byte(out, at, sign);
-    let at = put_byte(out, at, 32);
+    let at = put_byte(out, at, b' ');
     text::put_decimal(out, at, x)
 }
 
@@ -118,7 +113,7 @@ fn put_last(out: &mut [u8], at: usize, line: Line, q: u64) -> usize
     let at = put_term(out, at, b'x', line.root);
     let at = put_term(out, at, b'+', line.left);
     let at = put_term(out, at, b'=', q);
-    put_byte(out, at, 10)
+    put_byte(out, at, b'\n')
 }
 
 // A line that stands at a place, moved to the right.
@@ -141,12 +136,10 @@ fn put_sheet(q: u64, out: &mut [u8]) -> usize
     let mut place = root::highest(q);
     let mut line = Line { left: q, root: 0 };
     let mut at = put_first(out, n, q);
-    let mut i = 0;
-    while 0 < place {
+    for i in 0..n {
         line = root::step(place, line);
-        i += 1;
-        at = put_row(out, at, n, i, q / place % 4, moved(line, place));
-        place = place / 4;
+        at = put_row(out, at, n, i + 1, q / place % 4, moved(line, place));
+        place /= 4;
     }
     put_last(out, at, line, q)
 }

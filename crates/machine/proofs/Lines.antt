@@ -1,19 +1,17 @@
--- A line put into the output, a record done with its line, and bytes moved to the front.
+-- A line put into the output, and a record done with its line.
 -- Assumes nothing.
-use Prim.Native.Nat.{ℕ, zero, suc, ◌+◌, ◌-◌, ◌≤◌, ◌<◌}
-use mathlib.Core.Path.{◌≡◌, refl, sym, ap, ap₂, ◌∙◌, subst}
+use Prim.Native.Nat.{ℕ, ◌+◌, ◌-◌, ◌≤◌}
+use mathlib.Core.Path.{◌≡◌, sym, ap, ap₂, ◌∙◌, subst}
 use mathlib.Core.Bool.{Bool, false, cond}
-use mathlib.Core.List.{List, [], ◌∷◌, ◌++◌, append-nil, append_assoc}
-use native.Mathlib.Nat.{add_comm}
-use native.Mathlib.Numerals.{add-one}
+use mathlib.Core.List.{List, [], ◌++◌, append-nil, append_assoc}
 use native.Mathlib.Omega.{arith}
 use borrow.Author.Tests.{le-ltb}
 use lib.Dec.{ltb}
-use lib.ListN.{length, take, drop, get_or, set, length-set, length-append, length-drop, drop_of_length-le, take-append-drop}
-use lib.Seq.{take_all, take_at, take-suc, take-suc-set, drop-set-lt, drop-drop, length-take-le}
+use lib.ListN.{length, take, drop, length-append, length-drop, drop_of_length-le}
+use lib.Seq.{take_all, take_at, drop-drop, length-take-le}
 use Rattle.layout.specs.Over.{over}
 use Rattle.store.specs.Store.{damaged}
-use Rattle.service.specs.declared.Outcome.{Outcome}
+use Rattle.service.specs.Service.{Outcome}
 use Rattle.service.specs.declared.Deed.{Deed}
 use Rattle.service.specs.Service.{done_to}
 use Rattle.service.proofs.Laws.{goes_within}
@@ -87,46 +85,7 @@ entered held store out sub at n place r left to with e q d p =
       line = subst (λ (o : Outcome). TextPut place (line_of n o) out to with) (ap (λ (o : Deed × List ℕ). o.0.outcome) w) p;
     }
 
--- ---- bytes moved to the front
-
--- so many are moved, and the rest is as it was
-pub record Moved (from i : ℕ) (s₀ s : List ℕ) : Type 0 where
-  pub size : length s ≡ length s₀
-  pub front : take i s ≡ take i (drop from s₀)
-  pub rest : drop i s ≡ drop i s₀
-
-pub moved_begun : (from : ℕ) (s : List ℕ) → Moved from 0 s s
-moved_begun from s = record { size = refl; front = refl; rest = refl }
-
--- byte k is byte j of what follows the first i
-at_drop : (i j k : ℕ) (s : List ℕ) → k ≡ j + i → get_or s k 0 ≡ get_or (drop i s) j 0
-at_drop zero j k s e = ap (λ (n : ℕ). get_or s n 0) (omega (arith, e))
-at_drop (suc i) j k [] e = refl
-at_drop (suc i) j zero (x ∷ s) e = absurd (let z : ◌≡◌ {A = ℕ} 0 1 = omega (arith, e) in omega arith)
-at_drop (suc i) j (suc k) (x ∷ s) e = at_drop i j k s (omega (arith, e))
-
-pub moved_on : (from i : ℕ) (s₀ s : List ℕ) → from + i < length s₀ → Moved from i s₀ s → Moved from (i + 1) s₀ (set s i (get_or s (from + i) 0))
-moved_on from i s₀ s h m =
-    let v = get_or s (from + i) 0 in
-    let same : v ≡ get_or (drop from s₀) i 0 =
-    at_drop i from (from + i) s refl ∙ ap (λ (t : List ℕ). get_or t from 0) m.rest ∙ sym (at_drop i from (from + i) s₀ refl)
-    ∙ at_drop from i (from + i) s₀ (add_comm from i)
-    in
-    record {
-      size = length-set s i v ∙ m.size;
-      front =
-          rw add-one
-          (take-suc-set s i v (omega (arith, m.size)) ∙ ap₂ (λ (x : List ℕ) (y : ℕ). x ++ (y ∷ [])) m.front same
-          ∙ sym (take-suc (drop from s₀) i 0 (omega (arith, length-drop from s₀))));
-      rest = rw add-one (drop-set-lt (suc i) s i v (omega arith) ∙ drop_cut s ∙ ap (drop 1) m.rest ∙ sym (drop_cut s₀));
-    }
-  where
-    drop_cut : (t : List ℕ) → drop (suc i) t ≡ drop 1 (drop i t)
-    drop_cut t = ap (λ (k : ℕ). drop k t) (sym (add-one i)) ∙ sym (drop-drop 1 i t)
-
-pub moved_all : (from to i : ℕ) (s₀ s : List ℕ) → i ≡ to - from → Moved from i s₀ s → s ≡ part from to s₀ ++ drop (to - from) s₀
-moved_all from to i s₀ s e m =
-    sym (take-append-drop i s) ∙ ap₂ ◌++◌ m.front m.rest ∙ ap (λ (k : ℕ). take k (drop from s₀) ++ drop k s₀) e
+-- ---- bytes at hand
 
 pub part_length : (s : List ℕ) (from to : ℕ) → from ≤ to → to ≤ length s → length (part from to s) ≡ to - from
 part_length s from to h l = length-take-le (to - from) (drop from s) (omega (arith, length-drop from s))

@@ -3,7 +3,6 @@
 #![tactic(auto)]
 
 ghost use Rattle.std.specs.Prelude.{◌≡◌, false, ◌++◌, ◌+◌, ◌-◌, ◌≤◌, ◌<◌, length, drop};
-ghost use Rattle.level.specs.Table.{table};
 ghost use Rattle.store.specs.Store.{damaged};
 ghost use Rattle.service.specs.Service.{done_to};
 ghost use Rattle.listing.specs.Listing.{line_room, line_of};
@@ -51,19 +50,11 @@ fn put_line(out: &mut [u8], at: usize, n: u64, outcome: Outcome) -> usize
 }
 
 // Does the record at a place of the bytes held, and puts its line at a place of the output.
-fn enter(
-    steps: &[u32; 1000],
-    store: &mut [u8],
-    held: &[u8],
-    at: usize,
-    n: u64,
-    out: &mut [u8],
-    place: usize,
-) -> Entry
-    requires { (steps.now ≡ table) × (damaged store.old ≡ false) × (at ≤ length held.now) × (place + line_room ≤ length out.old) }
+fn enter(store: &mut [u8], held: &[u8], at: usize, n: u64, out: &mut [u8], place: usize) -> Entry
+    requires { (damaged store.old ≡ false) × (at ≤ length held.now) × (place + line_room ≤ length out.old) }
     ensures { Entered place n (drop at held.now) (done_to (drop at held.now) store.old) out.old result store.new out.new }
 {
-    let deed = service::serve(steps, store, &held[at..]);
+    let deed = service::serve(store, &held[at..]);
     let outcome = deed.outcome;
     let extent = deed.extent;
     let wrote = put_line(out, place, n, outcome);
@@ -78,15 +69,8 @@ fn ready(over: bool, size: usize, room: usize) -> bool
 }
 
 // Feeds the bytes held to a job. Where more may come, a record is done only if it is surely whole; `over` says that none will.
-pub fn feed(
-    steps: &[u32; 1000],
-    x: State,
-    store: &mut [u8],
-    held: &[u8],
-    over: bool,
-    out: &mut [u8],
-) -> Progress
-    requires { (steps.now ≡ table) × (damaged store.old ≡ false) × (x.count + length held.now < 18446744073709551616) }
+pub fn feed(x: State, store: &mut [u8], held: &[u8], over: bool, out: &mut [u8]) -> Progress
+    requires { (damaged store.old ≡ false) × (x.count + length held.now < 18446744073709551616) }
     ensures { ((result, store.new, out.new) ≡ leaves (feed_of over x held.now store.old (length out.old)) out.old) × (damaged store.new ≡ false) }
 {
     let mut used = 0;
@@ -100,9 +84,10 @@ pub fn feed(
             wrote,
         };
     }
+    // by hand: how far to go on is told by each record
     while ready(over, held.len() - used, out.len() - wrote) {
         count += 1;
-        let entry = enter(steps, store, held, used, count, out, wrote);
+        let entry = enter(store, held, used, count, out, wrote);
         wrote = entry.wrote;
         if entry.extent == 0 {
             let stopped = true;
@@ -129,9 +114,5 @@ pub fn hold(input: &mut [u8], from: usize, to: usize)
     requires { (from ≤ to) × (to ≤ length input.old) }
     ensures { input.new ≡ part from to input.old ++ drop (to - from) input.old }
 {
-    let mut i = 0;
-    while i < to - from {
-        input[i] = input[from + i];
-        i += 1;
-    }
+    input.copy_within(from..to, 0);
 }

@@ -10,71 +10,55 @@ use record::{Counts, Request};
 use road::{Receiver, Source, Traffic};
 use screen::Wall;
 
-fn joined(high: u8, low: u8) -> u16
-    ensures { result ≡ high * 256 + low }
-{
-    high as u16 * 256 + low as u16
-}
-
-fn wide(high: u16, low: u16) -> u32
-    ensures { result ≡ high * 65536 + low }
-{
-    high as u32 * 65536 + low as u32
-}
-
 fn two(raw: &[u8; 48], at: usize) -> u16
     requires { at + 2 ≤ 48 }
     ensures { result ≡ spec.two raw.now at }
 {
-    joined(raw[at], raw[at + 1])
+    u16::from_be_bytes([raw[at], raw[at + 1]])
 }
 
 fn four(raw: &[u8; 48], at: usize) -> u32
     requires { at + 4 ≤ 48 }
     ensures { result ≡ spec.four raw.now at }
 {
-    wide(two(raw, at), two(raw, at + 2))
+    u32::from_be_bytes([raw[at], raw[at + 1], raw[at + 2], raw[at + 3]])
 }
 
 fn traffic(raw: &[u8; 48], at: usize) -> Traffic
     requires { at + 6 ≤ 48 }
     ensures { result ≡ spec.traffic_at raw.now at }
 {
-    let m = four(raw, at);
-    let p = two(raw, at + 4);
-    Traffic { m, p }
-}
-
-fn periods(raw: &[u8; 48]) -> [Traffic; 3]
-    ensures { result ≡ (spec.raw_source raw.now).traffic }
-{
-    [traffic(raw, 26), traffic(raw, 32), traffic(raw, 38)]
+    Traffic {
+        m: four(raw, at),
+        p: two(raw, at + 4),
+    }
 }
 
 fn piece(raw: &[u8; 48]) -> Piece
     ensures { result ≡ spec.raw_piece raw.now }
 {
-    let x = four(raw, 3);
-    let y = four(raw, 7);
-    let length = four(raw, 11);
-    Piece { x, y, length }
+    Piece {
+        x: four(raw, 3),
+        y: four(raw, 7),
+        length: four(raw, 11),
+    }
 }
 
 fn ends(raw: &[u8; 48]) -> Ends
     ensures { result ≡ spec.raw_ends raw.now }
 {
-    let x1 = four(raw, 3);
-    let y1 = four(raw, 7);
-    let x2 = four(raw, 11);
-    let y2 = four(raw, 44);
-    Ends { x1, y1, x2, y2 }
+    Ends {
+        x1: four(raw, 3),
+        y1: four(raw, 7),
+        x2: four(raw, 11),
+        y2: four(raw, 44),
+    }
 }
 
 fn course(raw: &[u8; 48]) -> Course
     ensures { result ≡ spec.raw_course raw.now }
 {
-    let kind = raw[0];
-    if kind == 7 {
+    if raw[0] == 7 {
         return Course::Between(ends(raw));
     }
     Course::Uncut(piece(raw))
@@ -83,69 +67,60 @@ fn course(raw: &[u8; 48]) -> Course
 pub fn source(raw: &[u8; 48]) -> Source
     ensures { result ≡ spec.raw_source raw.now }
 {
-    let course = course(raw);
-    let lanes = raw[15];
-    let car = raw[16];
-    let truck = raw[17];
-    let surface = raw[18];
-    let gradient = raw[19];
-    let reflection = raw[20];
-    let walls = raw[21];
-    let height = two(raw, 22);
-    let spacing = two(raw, 24);
-    let traffic = periods(raw);
     Source {
-        course,
-        lanes,
-        car,
-        truck,
-        surface,
-        gradient,
-        reflection,
-        walls,
-        height,
-        spacing,
-        traffic,
+        course: course(raw),
+        lanes: raw[15],
+        car: raw[16],
+        truck: raw[17],
+        surface: raw[18],
+        gradient: raw[19],
+        reflection: raw[20],
+        walls: raw[21],
+        height: two(raw, 22),
+        spacing: two(raw, 24),
+        traffic: [traffic(raw, 26), traffic(raw, 32), traffic(raw, 38)],
     }
 }
 
 fn receiver(raw: &[u8; 48]) -> Receiver
     ensures { result ≡ spec.raw_receiver raw.now }
 {
-    let x = four(raw, 3);
-    let y = four(raw, 7);
-    let height = two(raw, 11);
-    Receiver { x, y, height }
+    Receiver {
+        x: four(raw, 3),
+        y: four(raw, 7),
+        height: two(raw, 11),
+    }
 }
 
 fn daily(raw: &[u8; 48]) -> Daily
     ensures { result ≡ spec.raw_daily raw.now }
 {
-    let class = raw[26];
-    let dtv = four(raw, 27);
-    Daily { class, dtv }
+    Daily {
+        class: raw[26],
+        dtv: four(raw, 27),
+    }
 }
 
 fn wall(raw: &[u8; 48]) -> Wall
     ensures { result ≡ spec.raw_wall raw.now }
 {
-    let ends = ends(raw);
-    let height = two(raw, 22);
-    Wall { ends, height }
+    Wall {
+        ends: ends(raw),
+        height: two(raw, 22),
+    }
 }
 
+#[tactic(auto, using(crate::proofs::Laws::ask_else), unfolding(crate::specs::Raw::call_by))]
 pub fn of(raw: &[u8; 48]) -> Request
     ensures { result ≡ spec.call_at raw.now }
 {
     let slot = two(raw, 1);
-    let kind = raw[0];
-    match kind {
+    match raw[0] {
         1 => Request::PlaceReceiver(slot, receiver(raw)),
         2 => Request::WithdrawReceiver(slot),
-        3 => Request::PlaceSource(slot, Counts::ByPeriod),
+        3 | 7 => Request::PlaceSource(slot, Counts::ByPeriod),
         4 => Request::WithdrawSource(slot),
         6 => Request::PlaceSource(slot, Counts::ByDay(piece(raw), daily(raw))),
-        7 => Request::PlaceSource(slot, Counts::ByPeriod),
         8 => Request::PlaceWall(slot, wall(raw)),
         9 => Request::WithdrawWall(slot),
         _ => Request::Ask(slot),

@@ -5,123 +5,67 @@
 mod call;
 mod head;
 
-ghost use Rattle.std.specs.Prelude.{◌<◌};
-
 use std::io::Read;
 
-// A length of two bytes, most significant first, or that the input ends before it.
-#[derive(Clone, Copy)]
-enum Size {
-    Bytes(usize),
-    Ended,
+// Fills all of the bytes; none where the input ends before.
+fn fill(rt: &HostRuntime, bytes: &mut [u8]) -> Option<()> {
+    rt.stdin().read_exact(bytes).ok()
 }
 
-fn wide(b: u8) -> usize
-    ensures { result < 256 }
-{
-    b as usize
+// Writes the head of an answer and the bytes that go with it; none where nobody takes them.
+fn answer(rt: &HostRuntime, head: &[u8], bytes: &[u8]) -> Option<()> {
+    rt.write_all(head).ok()?;
+    rt.write_all(bytes).ok()
 }
 
-fn read_size(rt: &HostRuntime) -> Size {
-    let mut b = [0u8; 2];
-    if !filled(rt, &mut b) {
-        return Size::Ended;
-    }
-    Size::Bytes(wide(b[0]) * 256 + wide(b[1]))
+// A length of two bytes, most significant first; none where the input ends before it.
+fn read_size(rt: &HostRuntime) -> Option<usize> {
+    let mut bytes = [0u8; 2];
+    fill(rt, &mut bytes)?;
+    Some(usize::from(u16::from_be_bytes(bytes)))
 }
 
-fn too_long(rt: &HostRuntime) -> bool {
+// A frame for which there is no room is the last one.
+fn too_long<T>(rt: &HostRuntime) -> Option<T> {
     let _ = rt.eprintln("probe: a frame is too long");
-    false
+    None
 }
 
-// Fills all of the bytes, or tells that the input ends before.
-fn filled(rt: &HostRuntime, bytes: &mut [u8]) -> bool {
-    rt.stdin().read_exact(bytes).is_ok()
-}
-
-// Does a record to a store, and writes the head of the answer and the store.
-fn answer(rt: &HostRuntime, store: &mut [u8], record: &[u8]) -> bool {
-    let deed = clerk::apply(store, record);
-    let head = head::of_deed(deed);
-    rt.write_all(&head).is_ok() && rt.write_all(store).is_ok()
-}
-
-// Reads as many bytes as the record has, and answers.
-fn with_record(rt: &HostRuntime, store: &mut [u8], record: &mut [u8]) -> bool {
-    filled(rt, record) && answer(rt, store, record)
-}
-
-// Reads the length of the record and then the record, for which there is some room. It tells whether to go on.
-fn sized_record(rt: &HostRuntime, store: &mut [u8], room: &mut [u8]) -> bool {
-    let size = read_size(rt);
-    let Size::Bytes(n) = size else {
-        return false;
+// A frame on a store of n bytes, which may have 32768, and then on a record, which may have 1024.
+fn store_frame(rt: &HostRuntime, n: usize) -> Option<()> {
+    let mut stores = [0u8; 32768];
+    let Some(store) = stores.get_mut(..n) else {
+        return too_long(rt);
     };
-    if room.len() < n {
+    fill(rt, store)?;
+    let size = read_size(rt)?;
+    let mut records = [0u8; 1024];
+    let Some(record) = records.get_mut(..size) else {
         return too_long(rt);
-    }
-    with_record(rt, store, &mut room[..n])
+    };
+    fill(rt, record)?;
+    let deed = clerk::apply(store, record);
+    answer(rt, &head::of_outcome(deed.outcome, deed.extent), store)
 }
 
-// Reads as many bytes as the store has, and then the record, which may have 1024 bytes.
-fn with_store(rt: &HostRuntime, store: &mut [u8]) -> bool {
-    let mut room = [0u8; 1024];
-    filled(rt, store) && sized_record(rt, store, &mut room)
-}
-
-// Reads the rest of a frame whose store has n bytes, for which there is some room. It tells whether to go on.
-fn sized_store(rt: &HostRuntime, n: usize, room: &mut [u8]) -> bool {
-    if room.len() < n {
-        return too_long(rt);
-    }
-    with_store(rt, &mut room[..n])
-}
-
-// Writes the record of a call into the room, and then the head of the answer and the room. The extent is that of the part read back.
-fn answer_call(rt: &HostRuntime, raw: &[u8; 48], room: &mut [u8]) -> bool {
-    let written = record::write(call::of(raw), call::source(raw), room);
-    let extent = record::part(room).len();
-    let head = head::of_writing(written, extent);
-    rt.write_all(&head).is_ok() && rt.write_all(room).is_ok()
-}
-
-// Reads a call of 48 bytes, and answers.
-fn with_room(rt: &HostRuntime, room: &mut [u8]) -> bool {
-    let mut raw = [0u8; 48];
-    filled(rt, &mut raw) && answer_call(rt, &raw, room)
-}
-
-// Reads the rest of a frame that asks for writing into n bytes FF, at most as many as there are. It tells whether to go on.
-fn sized_room(rt: &HostRuntime, n: usize, bytes: &mut [u8]) -> bool {
-    if bytes.len() < n {
-        return too_long(rt);
-    }
-    with_room(rt, &mut bytes[..n])
-}
-
-// A frame on a store, which may have 32768 bytes.
-fn store_frame(rt: &HostRuntime, n: usize) -> bool {
-    let mut room = [0u8; 32768];
-    sized_store(rt, n, &mut room)
-}
-
-// A frame that asks for writing, into at most 64 bytes.
-fn writing_frame(rt: &HostRuntime, n: usize) -> bool {
+// A frame that asks for writing the record of a call, which has 48 bytes, into n bytes FF, at most 64.
+// The extent is that of the part read back.
+fn writing_frame(rt: &HostRuntime, n: usize) -> Option<()> {
     let mut bytes = [255u8; 64];
-    sized_room(rt, n, &mut bytes)
+    let Some(room) = bytes.get_mut(..n) else {
+        return too_long(rt);
+    };
+    let mut raw = [0u8; 48];
+    fill(rt, &mut raw)?;
+    let written = record::write(call::of(&raw), call::source(&raw), room);
+    let extent = record::part(room).len();
+    answer(rt, &head::of_written(written, extent), room)
 }
 
 // One frame. The length of the store has four bytes, of which the first two are 0; where they are 1 the frame asks for writing.
-fn frame(rt: &HostRuntime) -> bool {
-    let high = read_size(rt);
-    let Size::Bytes(mode) = high else {
-        return false;
-    };
-    let low = read_size(rt);
-    let Size::Bytes(n) = low else {
-        return false;
-    };
+fn frame(rt: &HostRuntime) -> Option<()> {
+    let mode = read_size(rt)?;
+    let n = read_size(rt)?;
     match mode {
         0 => store_frame(rt, n),
         1 => writing_frame(rt, n),
@@ -129,10 +73,11 @@ fn frame(rt: &HostRuntime) -> bool {
     }
 }
 
-// A proved loop has to end, and nothing says that the input does: the loop counts down from a number that no run uses up.
+// A proved loop has to end, and nothing says that the input does: so many turns no run uses up.
 fn main(rt: HostRuntime) {
-    let mut turns = u64::MAX;
-    while turns > 0 && frame(&rt) {
-        turns -= 1;
+    for _ in 0..u64::MAX {
+        if frame(&rt).is_none() {
+            return;
+        }
     }
 }

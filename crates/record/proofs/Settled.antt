@@ -1,17 +1,8 @@
--- Each call of records settles its outcome: what is read, and what is written with the answer. One line for each.
+-- The part of a job settles its outcome; the calls that are passed on do so in codec/proofs/Settled.antt.
 -- Assumes nothing.
-use Rattle.answer.specs.Settled.{Settles, SettlesResult, SettlesBoth}
+use Rattle.answer.specs.Settled.{Settles}
 use Rattle.answer.proofs.Settled.{settled}
 use Rattle.record.proofs
 
-extent_settled : SettlesResult proofs.extent.Reads.Post
-extent_settled l a = settled _ _
-
-read_settled : SettlesResult proofs.read.Reads.Post
-read_settled l a = settled _ _
-
 part_settled : Settles (λ l a r e. r.now) proofs.part.Reads.Post
 part_settled l a = settled _ _
-
-write_settled : SettlesBoth (λ l a e. e.1.1.0.now) proofs.write.Reads.Post
-write_settled l a = settled _ _

@@ -3,7 +3,7 @@
 #![tactic(auto)]
 
 use answer::Refusal;
-use record::{Request, Told, Written};
+use record::Request;
 use road::Source;
 
 fn print(rt: &HostRuntime, text: &[u8]) {
@@ -15,10 +15,8 @@ fn print_number(rt: &HostRuntime, n: u64) {
 }
 
 fn print_bytes(rt: &HostRuntime, bytes: &[u8]) {
-    let mut i = 0;
-    while i < bytes.len() {
-        let _ = print!(rt; "{:02x}", bytes[i]);
-        i += 1;
+    for b in bytes {
+        let _ = print!(rt; "{b:02x}");
     }
 }
 
@@ -31,12 +29,9 @@ fn print_refusal(rt: &HostRuntime, why: Refusal) {
 
 // Writes a call, and prints why not, if it is refused, and what the output holds then.
 fn write(rt: &HostRuntime, call: Request, source: Source, out: &mut [u8]) {
-    match record::write(call, source, out) {
-        Written::Done => {}
-        Written::Refused(why) => {
-            print_refusal(rt, why);
-            print(rt, b" ");
-        }
+    if let Err(why) = record::write(call, source, out) {
+        print_refusal(rt, why);
+        print(rt, b" ");
     }
     print_bytes(rt, out);
     print(rt, b"\n");
@@ -48,14 +43,12 @@ fn again(rt: &HostRuntime, job: &[u8]) {
     print_number(rt, part.len() as u64);
     print(rt, b" ");
     let reading = record::read(job);
-    let told = reading.told;
-    let source = reading.source;
-    match told {
-        Told::Request(call) => {
+    match reading.told {
+        Ok(call) => {
             let mut out = [255u8; 36];
-            write(rt, call, source, &mut out);
+            write(rt, call, reading.source, &mut out);
         }
-        Told::Refused(why) => {
+        Err(why) => {
             print_refusal(rt, why);
             print(rt, b"\n");
         }
@@ -100,7 +93,8 @@ fn accepted(rt: &HostRuntime) {
     again(rt, b"\x91\x40");
 }
 
-fn refused(rt: &HostRuntime) {
+// Refusals 2 to 4.
+fn refused_whole(rt: &HostRuntime) {
     // refusal 2: no byte; a byte short
     again(rt, b"");
     again(
@@ -120,6 +114,10 @@ fn refused(rt: &HostRuntime) {
         b"\x81\x40\x66\x8a\x00\x57\xe4\x00\x66\x8a\x00\x6b\x6c\x0c\x81",
     );
     again(rt, b"\x91\x60");
+}
+
+// Refusal 5 of a source and of a receiver.
+fn refused_fields(rt: &HostRuntime) {
     // refusal 5: both ends the same point; ends 1 km and 1 cm apart
     again(
         rt,
@@ -144,6 +142,10 @@ fn refused(rt: &HostRuntime) {
         rt,
         b"\x60\x08\x0c\x83\x20\x0c\x35\x00\x0f\xa0\xc8\xa0\x20\x00\x00\x00\x00\x30\x00\x00",
     );
+}
+
+// Refusal 5 of a wall, and 6.
+fn refused_walls(rt: &HostRuntime) {
     // a wall whose ends are one point; of height 0; of 20 m and 1 cm
     again(
         rt,
@@ -166,7 +168,9 @@ fn refused(rt: &HostRuntime) {
 
 fn main(rt: HostRuntime) {
     accepted(&rt);
-    refused(&rt);
+    refused_whole(&rt);
+    refused_fields(&rt);
+    refused_walls(&rt);
     // the writer: slot 64 of a receiver and of a wall, and an output of one byte
     let source = record::read(b"").source;
     let mut short = [255u8; 1];

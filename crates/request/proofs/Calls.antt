@@ -1,5 +1,6 @@
 -- The laws of each kind: the fields of a call are those that its kind reads back as the call, and fields that are read are those of their call.
 -- A new kind is a new clause of each law. Assumes nothing.
+use Rattle.std.specs.Prelude.{Ok}
 use Prim.Native.Nat.{ℕ, zero, suc, ◌+◌, ◌-◌, ◌^◌, ◌≤◌, ◌<◌}
 use mathlib.Core.Path.{◌≡◌, refl, sym, ap, ◌∙◌, subst⁻¹}
 use mathlib.Core.List.{List, [], ◌∷◌, ◌++◌}
@@ -13,8 +14,7 @@ use Rattle.layout.proofs.Packing.{within_append}
 use Rattle.course.specs.declared.Course.{Course}
 use Rattle.course.specs.declared.Course.TheVariants.{Uncut, Between}
 use Rattle.road.specs.declared.Source.{Source}
-use Rattle.road.specs.declared.Verdict.{Verdict}
-use Rattle.road.specs.declared.Verdict.TheVariants.{Allowed}
+use Rattle.road.specs.Results.{Verdict}
 use Rattle.road.proofs.Fit.{past, fit_course, piece_within, ends_within, source_within, receiver_within, wall_within}
 use Rattle.road.proofs.Judged.{slot_allowed}
 use Rattle.road.proofs.Rows as rows
@@ -34,7 +34,7 @@ use Rattle.request.specs.Kinds.{kind_bits, source_slot_bits, receiver_slot_bits,
 -- ---- an allowed call has fields that fit
 
 -- a source on its course
-placed_within : (c : Course) (slot : ℕ) (s : Source) → slot ≤ last_named_source → course_verdict c (rest_verdict s) ≡ Allowed
+placed_within : (c : Course) (slot : ℕ) (s : Source) → slot ≤ last_named_source → course_verdict c (rest_verdict s) ≡ Ok tt
     → Within (layout_of (course_kind c)) (placed_fields c slot (source_fields s))
 unfolding kind_at
 placed_within (Uncut p) slot s h e =
@@ -46,16 +46,16 @@ placed_within (Between d) slot s h e =
     (lit< tt, (omega arith, within_append (bits_by ends_table) (values_by ends_table d) (bits_by source_table ++ (1 ∷ [])) (source_fields s ++ (0 ∷ [])) (ends_within d (unless_outside length_table d (rest_verdict s)) e) r))
 
 -- a slot that is allowed, fields that fit if they are, and leftover bits, which are zero
-slot_within : (k b left slot : ℕ) (ws fs : List ℕ) (v : Verdict) → k < 2 ^ kind_bits → (v ≡ Allowed → Within ws fs) → slot_verdict (2 ^ b - 1) slot v ≡ Allowed
+slot_within : (k b left slot : ℕ) (ws fs : List ℕ) (v : Verdict) → k < 2 ^ kind_bits → (v ≡ Ok tt → Within ws fs) → slot_verdict (2 ^ b - 1) slot v ≡ Ok tt
     → Within (kind_bits ∷ b ∷ (ws ++ (left ∷ []))) (k ∷ slot ∷ (fs ++ (0 ∷ [])))
 slot_within k b left slot ws fs v h w e =
     let a = slot_allowed (2 ^ b - 1) slot v e in
     (h, (omega (arith, pow_pos b, a.0), within_append ws fs (left ∷ []) (0 ∷ []) (w a.1) (pow_pos left, tt)))
 
-pub call_within : (c : Request) (s : Source) → verdict_of c s ≡ Allowed → Within (layout_of (kind_number c s)) (fields_of c s)
+pub call_within : (c : Request) (s : Source) → verdict_of c s ≡ Ok tt → Within (layout_of (kind_number c s)) (fields_of c s)
 unfolding kind_at verdict_of source_verdict daily_verdict
 call_within (PlaceReceiver slot r) s e = slot_within 1 receiver_slot_bits 5 slot (bits_by receiver_table) (receiver_fields r) (receiver_verdict r) (lit< tt) (receiver_within r) e
-call_within (WithdrawReceiver slot) s e = slot_within 2 receiver_slot_bits 6 slot [] [] Allowed (lit< tt) (λ a. tt) e
+call_within (WithdrawReceiver slot) s e = slot_within 2 receiver_slot_bits 6 slot [] [] (Ok tt) (lit< tt) (λ a. tt) e
 call_within (PlaceSource slot ByPeriod) s e =
     let a = slot_allowed last_named_source slot (source_verdict s) e in
     placed_within s.course slot s a.0 a.1
@@ -63,10 +63,10 @@ call_within (PlaceSource slot (ByDay p d)) s e =
     let a = slot_allowed last_named_source slot (daily_verdict (Uncut p) d s) e in
     let r = within_append daily_bits (daily_fields d s) (2 ∷ []) (0 ∷ []) (daily_within (Uncut p) d s a.1) (lit< tt, tt) in
     (lit< tt, (omega (arith, a.0), within_append (bits_by piece_table) (values_by piece_table p) (daily_bits ++ (2 ∷ [])) (daily_fields d s ++ (0 ∷ [])) (piece_within p _ a.1) r))
-call_within (WithdrawSource slot) s e = slot_within 4 source_slot_bits 3 slot [] [] Allowed (lit< tt) (λ a. tt) e
-call_within (Ask slot) s e = slot_within 5 receiver_slot_bits 6 slot [] [] Allowed (lit< tt) (λ a. tt) e
+call_within (WithdrawSource slot) s e = slot_within 4 source_slot_bits 3 slot [] [] (Ok tt) (lit< tt) (λ a. tt) e
+call_within (Ask slot) s e = slot_within 5 receiver_slot_bits 6 slot [] [] (Ok tt) (lit< tt) (λ a. tt) e
 call_within (PlaceWall slot w) s e = slot_within 8 wall_slot_bits 3 slot (bits_by wall_table) (wall_fields w) (wall_verdict w) (lit< tt) (wall_within w) e
-call_within (WithdrawWall slot) s e = slot_within 9 wall_slot_bits 6 slot [] [] Allowed (lit< tt) (λ a. tt) e
+call_within (WithdrawWall slot) s e = slot_within 9 wall_slot_bits 6 slot [] [] (Ok tt) (lit< tt) (λ a. tt) e
 
 -- ---- from a call to its fields and back
 
@@ -182,7 +182,7 @@ module _ (c : Request) (s : Source) (k : ℕ) (v : List ℕ) (e : k ≡ kind_num
   first_fields : first_of k v ≡ fields_of c s
   first_fields = (λ i. first_of (e i) (f i)) ∙ first_filled (kind_number c s) (fields_of c s) (call_length c s)
 
-  pub written_within : verdict_of c s ≡ Allowed → Within (layout_of k) (first_of k v)
+  pub written_within : verdict_of c s ≡ Ok tt → Within (layout_of k) (first_of k v)
   written_within h = subst⁻¹ (λ (j : ℕ). Within (layout_of j) (first_of k v)) e (subst⁻¹ (Within (layout_of (kind_number c s))) first_fields (call_within c s h))
 
   pub written_record : packed (layout_of k) (first_of k v) ≡ record_of c s

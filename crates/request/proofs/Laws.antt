@@ -1,5 +1,6 @@
 -- What the reader and the writer come to, case by case, over plain values; and the laws of fields with zeros after them.
 -- Assumes nothing.
+use Rattle.std.specs.Prelude.{Ok, Err}
 use Prim.Native.Nat.{ℕ, zero, suc, ◌+◌, ◌≤◌, ◌<◌}
 use mathlib.Core.Path.{◌≡◌, refl, sym, ap, ap₂, ◌∙◌, subst, subst⁻¹}
 use mathlib.Core.Bool.{Bool, true, false, cond, ◌||◌}
@@ -9,8 +10,8 @@ use native.Mathlib.Numerals.{add-one}
 use native.Mathlib.Omega.{arith}
 use borrow.Author.Tests.{le-leb, lt-leb, leb-true, ltb-false, lt-ltb, le-ltb}
 use lib.Dec.{leb, ltb, eqb}
-use lib.ListN.{length, get_or, take, drop, replicate, set, length-append, length-map}
-use lib.Seq.{get_or-drop, take_at, drop-cons, drop-drop, drop-append-add, set_at, take-suc, length-take-le, take-length, take_all}
+use lib.ListN.{length, get_or, take, drop, replicate, length-append, length-map}
+use lib.Seq.{get_or-drop, take_at, drop-drop, drop-append-add, take_all}
 use lib.Pow.{pow_mono}
 use Rattle.layout.specs.Layout.{size, fields, Within, bits, num}
 use Rattle.layout.specs.Over.{over}
@@ -19,15 +20,12 @@ use Rattle.layout.proofs.Laws.{length_fields, length_packed}
 use Rattle.answer.specs.declared.Refusal.{Refusal}
 use Rattle.answer.specs.declared.Refusal.TheVariants.{CutShort, UnknownKind, Leftover}
 use Rattle.road.specs.declared.Source.{Source}
-use Rattle.road.specs.declared.Verdict.{Verdict}
-use Rattle.road.specs.declared.Verdict.TheVariants as verdict
+use Rattle.road.specs.Results.{Verdict}
 use Rattle.road.specs.Fields.{Row, bits_by, slot_bits_by, Fit}
 use Rattle.road.proofs.Rows.{roomy, fit_wider, record_fit}
 use Rattle.request.specs.declared.Request.{Request}
 use Rattle.request.specs.declared.Request.TheVariants.{Ask}
-use Rattle.request.specs.declared.Told.TheVariants as told
-use Rattle.request.specs.declared.Written.{Written}
-use Rattle.request.specs.declared.Written.TheVariants as written
+use Rattle.request.specs.Record.{Written}
 use Rattle.request.specs.Kinds.{at, blank, kind_at, layout_of, call_in, source_in, leftover_of, verdict_of, kind_number, fields_of}
 use Rattle.request.specs.Record.{kind_of, length_of, values_of, cut_short, unknown_kind, leftover_set, reading, refused, judged, heard_by, heard, read_of, extent_of, record_of, written_by, write_of}
 use Rattle.request.specs.Inner.{filled, first_of}
@@ -71,28 +69,6 @@ read_room k n s e f =
 -- it begins with the fields that are read
 pub first_values : (k n : ℕ) (s v : List ℕ) → n ≡ length (layout_of k) → v ≡ filled (fields (layout_of k) s) → take n v ≡ fields (layout_of k) s
 first_values k n s v e f = (λ i. take (e i) (f i)) ∙ first_filled k (fields (layout_of k) s) (length_fields (layout_of k) s)
-
--- one field more of those that are copied over zeros
-pub copied : (f z : List ℕ) (i : ℕ) → i < length f → i < length z
-    → set (take i f ++ drop i z) i (at f i) ≡ take (suc i) f ++ drop (suc i) z
-copied f z i h l =
-    ap (λ (x : List ℕ). set (take i f ++ x) i (at f i)) (drop-cons z i 0 l)
-    ∙ set_at (take i f) (at z i) (drop (suc i) z) (at f i) i (length-take-le i f (omega arith))
-    ∙ sym (append_assoc (take i f) (at f i ∷ []) (drop (suc i) z))
-    ∙ ap (λ (x : List ℕ). x ++ drop (suc i) z) (sym (take-suc f i 0 h))
-
-pub joined_more : (a b : ℕ) (f z v : List ℕ) (i : ℕ) → i < length f → i < length z → v ≡ a ∷ b ∷ (take i f ++ drop i z)
-    → set v (i + 2) (at f i) ≡ a ∷ b ∷ (take (i + 1) f ++ drop (i + 1) z)
-joined_more a b f z v i h l e =
-    let p : i + 2 ≡ suc (suc i) = omega arith in
-    let q : suc i ≡ i + 1 = omega arith in
-    (λ j. set (e j) (p j) (at f i)) ∙ ap (λ (x : List ℕ). a ∷ b ∷ x) (copied f z i h l) ∙ (λ j. a ∷ b ∷ (take (q j) f ++ drop (q j) z))
-
-pub joined_all : (a b : ℕ) (f v : List ℕ) (i : ℕ) → i ≡ length f → v ≡ a ∷ b ∷ (take i f ++ drop i (replicate 23 0)) → v ≡ filled (a ∷ b ∷ f)
-unfolding filled
-joined_all a b f v i e h =
-    h ∙ (λ j. a ∷ b ∷ (take (e j) f ++ drop (e j) (replicate 23 0)))
-    ∙ ap (λ (x : List ℕ). a ∷ b ∷ (x ++ drop (length f) (replicate 23 0))) (take-length f)
 
 -- values laid behind fields
 pub filled_more : (w t : List ℕ) → over (length w) t (filled w) ≡ filled (w ++ t)
@@ -174,10 +150,10 @@ module _ (k : ℕ) (v : List ℕ) (call : Request) (source : Source) (e : call �
   heard_by_lem : heard_by call source ≡ heard k v
   heard_by_lem = λ i. heard_by (e i) (f i)
 
-  pub heard_refused : (why : Refusal) → verdict_of call source ≡ verdict.Refused why → refused why ≡ heard k v
+  pub heard_refused : (why : Refusal) → verdict_of call source ≡ Err why → refused why ≡ heard k v
   heard_refused why h = sym (ap (λ (x : Verdict). judged x call source) h) ∙ heard_by_lem
 
-  pub heard_allowed : verdict_of call source ≡ verdict.Allowed → reading (told.Request call) source ≡ heard k v
+  pub heard_allowed : verdict_of call source ≡ Ok tt → reading (Ok call) source ≡ heard k v
   heard_allowed h = sym (ap (λ (x : Verdict). judged x call source) h) ∙ heard_by_lem
 
 -- ---- reading
@@ -219,8 +195,8 @@ module _ (s : List ℕ) where
 -- ---- writing
 
 module _ (call : Request) (source : Source) (out : List ℕ) where
-  pub write_refused : (why : Refusal) → verdict_of call source ≡ verdict.Refused why
-      → ◌≡◌ {A = Written × List ℕ} (written.Refused why, out) (write_of call source out)
+  pub write_refused : (why : Refusal) → verdict_of call source ≡ Err why
+      → ◌≡◌ {A = Written × List ℕ} (Err why, out) (write_of call source out)
   unfolding write_of
   write_refused why h = sym (ap (λ (v : Verdict). written_by v (record_of call source) out) h)
 
@@ -228,9 +204,9 @@ module _ (call : Request) (source : Source) (out : List ℕ) where
   unfolding record_of
   record_length = length_packed (layout_of (kind_number call source)) (fields_of call source)
 
-  module _ (h : verdict_of call source ≡ verdict.Allowed) where
+  module _ (h : verdict_of call source ≡ Ok tt) where
     pub write_short : length out < size (layout_of (kind_number call source))
-        → ◌≡◌ {A = Written × List ℕ} (written.Refused CutShort, out) (write_of call source out)
+        → ◌≡◌ {A = Written × List ℕ} (Err CutShort, out) (write_of call source out)
     unfolding write_of
     write_short l =
         let t : length out < length (record_of call source) = omega (arith, record_length) in
@@ -238,12 +214,12 @@ module _ (call : Request) (source : Source) (out : List ℕ) where
         sym (ap (λ (v : Verdict). written_by v (record_of call source) out) h ∙ rw e refl)
 
     pub write_done : size (layout_of (kind_number call source)) ≤ length out
-        → ◌≡◌ {A = Written × List ℕ} (written.Done, record_of call source ++ drop (size (layout_of (kind_number call source))) out) (write_of call source out)
+        → ◌≡◌ {A = Written × List ℕ} (Ok tt, record_of call source ++ drop (size (layout_of (kind_number call source))) out) (write_of call source out)
     unfolding write_of
     write_done l =
         let t : length (record_of call source) ≤ length out = omega (arith, record_length) in
         let e : ltb (length out) (length (record_of call source)) ≡ false = le-ltb (length out) (length (record_of call source)) t in
-        ap (λ (n : ℕ). (written.Done, record_of call source ++ drop n out)) (sym record_length)
+        ap (λ (n : ℕ). (Ok tt, record_of call source ++ drop n out)) (sym record_length)
         ∙ sym (ap (λ (v : Verdict). written_by v (record_of call source) out) h ∙ rw e refl)
 
 -- ---- the kinds that the code does not name

@@ -1,5 +1,6 @@
 -- The numbers of a call's verdict: the judge of its slot and fields gives 5 to 7. And the places of what a reader tells: fields' numbers.
 -- Assumes nothing.
+use Rattle.std.specs.Prelude.{Ok, Err}
 use Prim.Native.Nat.{ℕ, ◌<◌}
 use mathlib.Core.Bool.{Bool, true, false, cond}
 use mathlib.Core.List.{List}
@@ -7,8 +8,7 @@ use native.Mathlib.Omega.{arith}
 use Rattle.answer.specs.declared.Refusal.TheVariants.{CutShort, UnknownKind, Leftover}
 use Rattle.course.specs.declared.Course.TheVariants.{Uncut}
 use Rattle.road.specs.declared.Source.{Source}
-use Rattle.road.specs.declared.Verdict.{Verdict}
-use Rattle.road.specs.declared.Verdict.TheVariants as verdict
+use Rattle.road.specs.Results.{Verdict}
 use Rattle.road.specs.Judge.{receiver_verdict, source_verdict, wall_verdict}
 use Rattle.road.proofs.Judged.{ByFields, source_by, receiver_by, wall_by, slot_by_lem}
 use Rattle.daily.specs.Daily.{daily_verdict}
@@ -23,13 +23,13 @@ use Rattle.request.specs.Record.{kind_of, values_of, cut_short, unknown_kind, le
 pub verdict_by : (call : Request) (source : Source) → ByFields (verdict_of call source)
 unfolding verdict_of
 verdict_by (PlaceReceiver slot r) s = slot_by_lem last_named_receiver slot (receiver_verdict r) (receiver_by r)
-verdict_by (WithdrawReceiver slot) s = slot_by_lem last_named_receiver slot verdict.Allowed tt
+verdict_by (WithdrawReceiver slot) s = slot_by_lem last_named_receiver slot (Ok tt) tt
 verdict_by (PlaceSource slot ByPeriod) s = slot_by_lem last_named_source slot (source_verdict s) (source_by s)
 verdict_by (PlaceSource slot (ByDay p d)) s = slot_by_lem last_named_source slot (daily_verdict (Uncut p) d s) (daily_by (Uncut p) d s)
-verdict_by (WithdrawSource slot) s = slot_by_lem last_named_source slot verdict.Allowed tt
-verdict_by (Ask slot) s = slot_by_lem last_named_receiver slot verdict.Allowed tt
+verdict_by (WithdrawSource slot) s = slot_by_lem last_named_source slot (Ok tt) tt
+verdict_by (Ask slot) s = slot_by_lem last_named_receiver slot (Ok tt) tt
 verdict_by (PlaceWall slot w) s = slot_by_lem last_named_wall slot (wall_verdict w) (wall_by w)
-verdict_by (WithdrawWall slot) s = slot_by_lem last_named_wall slot verdict.Allowed tt
+verdict_by (WithdrawWall slot) s = slot_by_lem last_named_wall slot (Ok tt) tt
 
 abbrev Low : Reading → Type 0
 Low r = place_told r.told < 32
@@ -39,8 +39,8 @@ either_low true r q m n = m
 either_low false r q m n = n
 
 judged_low : (v : Verdict) (c : Request) (s : Source) → ByFields v → Low (judged v c s)
-judged_low verdict.Allowed c s b = omega arith
-judged_low (verdict.Refused why) c s b = b.2
+judged_low (Ok tt) c s b = omega arith
+judged_low (Err why) c s b = b.2
 
 pub read_low : (s : List ℕ) → place_told (read_of s).told < 32
 unfolding read_of

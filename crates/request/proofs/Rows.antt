@@ -1,18 +1,15 @@
 -- What holds of every row of the table of kinds, by one computed test.
 -- Assumes nothing.
-use Prim.Native.Nat.{ℕ, zero, suc, ◌+◌, ◌≤◌, ◌<◌}
-use mathlib.Core.Path.{◌≡◌, refl, sym, ap, ◌∙◌}
+use Prim.Native.Nat.{ℕ, zero, suc, ◌≤◌, ◌<◌}
+use mathlib.Core.Path.{◌≡◌, refl}
 use mathlib.Core.Bool.{Bool, true, false, ◌&&◌, ◌||◌}
-use mathlib.Core.List.{List, [], ◌∷◌, map}
-use native.Mathlib.Nat.{not-suc-le-zero, le_of_suc-le-suc}
+use mathlib.Core.List.{List, [], ◌∷◌}
 use native.Mathlib.Omega.{arith}
 use borrow.Author.Tests.{leb-true, eqb-true, ne_eqb}
 use lib.Dec.{leb, eqb}
-use lib.ListN.{length, get_or, take, drop, length-append, get_or-map, get_or-eq_default}
-use lib.Seq.{take_at, drop-append-add}
+use lib.ListN.{length, get_or}
 use Rattle.layout.specs.Layout.{size, sized}
 use Rattle.layout.proofs.Bounds.{both}
-use Rattle.request.specs.Inner.{joined, all_widths, shape_by, shape_of}
 use Rattle.request.specs.Kinds.{kind_bits, at, Kind, unlisted, kinds, longest_record, kind_at, layout_of}
 
 abbrev every : (Kind → Bool) → List Kind → Bool
@@ -78,67 +75,3 @@ module _ (k : ℕ) where
 pub row_longest : (k : ℕ) → size (layout_of k) ≤ longest_record
 unfolding kind_at
 row_longest k = leb-true (size (layout_of k)) longest_record (at_row (λ (x : Kind). leb (size x.widths) longest_record) kinds k refl refl)
-
--- ---- the code's tables are these rows
-
--- where row i starts among the widths of all
-abbrev start_of : List Kind → ℕ → ℕ
-start_of [] i = 0
-start_of (k ∷ ks) zero = 0
-start_of (k ∷ ks) (suc i) = length k.widths + start_of ks i
-
-abbrev pub starts : ℕ → List Kind → List ℕ
-starts n [] = []
-starts n (k ∷ ks) = n ∷ starts (n + length k.widths) ks
-
-start_at : (n : ℕ) (ks : List Kind) (i : ℕ) → i < length ks → get_or (starts n ks) i 0 ≡ n + start_of ks i
-start_at n [] i h = absurd (not-suc-le-zero h)
-start_at n (k ∷ ks) zero h = omega arith
-start_at n (k ∷ ks) (suc i) h = omega (arith, start_at (n + length k.widths) ks i (le_of_suc-le-suc h))
-
-row_part : (ks : List Kind) (i : ℕ) → i < length ks
-    → take (length (get_or ks i unlisted).widths) (drop (start_of ks i) (joined ks)) ≡ (get_or ks i unlisted).widths
-row_part [] i h = absurd (not-suc-le-zero h)
-row_part (k ∷ ks) zero h = take_at k.widths (joined ks) (length k.widths) refl
-row_part (k ∷ ks) (suc i) h =
-    ap (take (length (get_or ks i unlisted).widths)) (drop-append-add k.widths (joined ks) (start_of ks i)) ∙ row_part ks i (le_of_suc-le-suc h)
-
-row_end : (ks : List Kind) (i : ℕ) → i < length ks → start_of ks i + length (get_or ks i unlisted).widths ≤ length (joined ks)
-row_end [] i h = absurd (not-suc-le-zero h)
-row_end (k ∷ ks) zero h = omega (arith, length-append k.widths (joined ks))
-row_end (k ∷ ks) (suc i) h = omega (arith, length-append k.widths (joined ks), row_end ks i (le_of_suc-le-suc h))
-
-module _ (r k : ℕ) (e : kind_at r ≡ kind_at k) where
-  pub shape_row : record {
-    count = get_or {A = ℕ} (map (λ (x : Kind). length x.widths) kinds) r 0;
-    fields = get_or {A = ℕ} (map (λ (x : Kind). x.fields) kinds) r 0;
-    bytes = get_or {A = ℕ} (map (λ (x : Kind). size x.widths) kinds) r 0;
-  }
-      ≡ shape_of k
-  unfolding kind_at
-  shape_row =
-      (λ i. record {
-        count = get_or-map (λ (x : Kind). length x.widths) kinds r unlisted i;
-        fields = get_or-map (λ (x : Kind). x.fields) kinds r unlisted i;
-        bytes = get_or-map (λ (x : Kind). size x.widths) kinds r unlisted i;
-      })
-      ∙ ap shape_by e
-
-  module _ (h : r < length kinds) where
-    pub count_row : get_or {A = ℕ} (map (λ (x : Kind). length x.widths) kinds) r 0 ≡ length (layout_of k)
-    unfolding kind_at
-    count_row = get_or-map (λ (x : Kind). length x.widths) kinds r unlisted ∙ ap (λ (x : Kind). length x.widths) e
-
-    pub widths_end : get_or (starts 0 kinds) r 0 + length (layout_of k) ≤ length all_widths
-    unfolding kind_at all_widths
-    widths_end = omega (arith, start_at 0 kinds r h, ap (λ (x : Kind). length x.widths) e, row_end kinds r h)
-
-    pub widths_row : take (length (layout_of k)) (drop (get_or (starts 0 kinds) r 0) all_widths) ≡ layout_of k
-    unfolding kind_at all_widths
-    widths_row =
-        let s : get_or (starts 0 kinds) r 0 ≡ start_of kinds r = omega (arith, start_at 0 kinds r h) in
-        (λ i. take (length (sym e i).widths) (drop (s i) (joined kinds))) ∙ row_part kinds r h ∙ ap (λ (x : Kind). x.widths) e
-
-pub row_none : (k : ℕ) → length kinds ≤ k → kind_at 0 ≡ kind_at k
-unfolding kind_at
-row_none k h = sym (get_or-eq_default kinds unlisted h)

@@ -1,5 +1,6 @@
 -- The round trips of a record, for every kind: what is read and written again is the same bytes, and what is written and read again the same fields.
 -- And its part: the bytes of a record that is read, and none of one that is refused. Assumes nothing.
+use Rattle.std.specs.Prelude.{Ok, Err}
 use Prim.Native.Nat.{ℕ, zero, suc, ◌≤◌, ◌<◌}
 use mathlib.Core.Path.{◌≡◌, refl, sym, ap, ap₂, ◌∙◌}
 use mathlib.Core.Bool.{Bool, true, false, cond, ◌||◌}
@@ -14,14 +15,11 @@ use Rattle.layout.proofs.Laws.{length_fields, length_packed, packed_bytes, field
 use Rattle.answer.specs.declared.Refusal.{Refusal}
 use Rattle.answer.specs.declared.Refusal.TheVariants.{CutShort, UnknownKind, Leftover}
 use Rattle.road.specs.declared.Source.{Source}
-use Rattle.road.specs.declared.Verdict.{Verdict}
-use Rattle.road.specs.declared.Verdict.TheVariants as verdict
+use Rattle.road.specs.Results.{Verdict}
 use Rattle.request.specs.declared.Request.{Request}
-use Rattle.request.specs.declared.Told.{Told}
-use Rattle.request.specs.declared.Told.TheVariants as told
+use Rattle.request.specs.Record.{Told}
 use Rattle.request.specs.declared.Reading.{Reading}
-use Rattle.request.specs.declared.Written.{Written}
-use Rattle.request.specs.declared.Written.TheVariants as written
+use Rattle.request.specs.Record.{Written}
 use Rattle.request.specs.Kinds.{at, kind_at, layout_of, call_in, source_in, leftover_of, verdict_of, kind_number, fields_of, source_with}
 use Rattle.request.specs.Record.{kind_of, length_of, values_of, cut_short, unknown_kind, leftover_set, reading, refused, judged, heard_by, heard, read_of, extent_of, part_by, part_of, record_of, written_by, write_of}
 use Rattle.request.proofs.Rows.{row_sized, row_begun}
@@ -37,22 +35,22 @@ kind_first k s h l b =
 -- ---- what is accepted
 
 module _ (c : Request) (r : Source) where
-  refused_not : {A : Type 0} (why : Refusal) → refused why ≡ reading (told.Request c) r → A
+  refused_not : {A : Type 0} (why : Refusal) → refused why ≡ reading (Ok c) r → A
   refused_not why e =
-      let t : told.Refused why ≡ told.Request c = ap (λ (x : Reading). x.told) e in
+      let t : Err why ≡ Ok c = ap (λ (x : Reading). x.told) e in
       let z : ◌≡◌ {A = ℕ} 0 1 = cc in
       absurd (omega arith)
 
-  past : (b : Bool) (why : Refusal) (x : Reading) → cond b (refused why) x ≡ reading (told.Request c) r
-      → (b ≡ false) × (x ≡ reading (told.Request c) r)
+  past : (b : Bool) (why : Refusal) (x : Reading) → cond b (refused why) x ≡ reading (Ok c) r
+      → (b ≡ false) × (x ≡ reading (Ok c) r)
   past true why x e = refused_not why e
   past false why x e = (refl, e)
 
-  heard_call : (v : Verdict) (d : Request) (q : Source) → judged v d q ≡ reading (told.Request c) r → (v ≡ verdict.Allowed) × ((d ≡ c) × (q ≡ r))
-  heard_call verdict.Allowed d q e =
-      let t : told.Request d ≡ told.Request c = ap (λ (x : Reading). x.told) e in
+  heard_call : (v : Verdict) (d : Request) (q : Source) → judged v d q ≡ reading (Ok c) r → (v ≡ Ok tt) × ((d ≡ c) × (q ≡ r))
+  heard_call (Ok tt) d q e =
+      let t : Ok d ≡ Ok c = ap (λ (x : Reading). x.told) e in
       (refl, (cc, ap (λ (x : Reading). x.source) e))
-  heard_call (verdict.Refused why) d q e = refused_not why e
+  heard_call (Err why) d q e = refused_not why e
 
 pub record Accepted (s : List ℕ) (c : Request) (r : Source) : Type 0 where
   pub listed : 0 < length_of s
@@ -60,9 +58,9 @@ pub record Accepted (s : List ℕ) (c : Request) (r : Source) : Type 0 where
   pub clean : leftover_of (kind_of s) (values_of s) ≡ 0
   pub call : call_in (kind_of s) (values_of s) ≡ c
   pub source : source_in (kind_of s) (values_of s) ≡ r
-  pub allowed : verdict_of c r ≡ verdict.Allowed
+  pub allowed : verdict_of c r ≡ Ok tt
 
-pub accepted : (s : List ℕ) (c : Request) (r : Source) → read_of s ≡ reading (told.Request c) r → Accepted s c r
+pub accepted : (s : List ℕ) (c : Request) (r : Source) → read_of s ≡ reading (Ok c) r → Accepted s c r
 unfolding read_of
 accepted s c r e =
     let k = kind_of s in
@@ -90,8 +88,8 @@ accepted s c r e =
 
 -- ---- read, and written again: the same bytes
 
-pub write_read : (s out : List ℕ) (c : Request) (r : Source) → Bytes s → extent_of s ≤ length out → read_of s ≡ reading (told.Request c) r
-    → ◌≡◌ {A = Written × List ℕ} (write_of c r out) (written.Done, take (extent_of s) s ++ drop (extent_of s) out)
+pub write_read : (s out : List ℕ) (c : Request) (r : Source) → Bytes s → extent_of s ≤ length out → read_of s ≡ reading (Ok c) r
+    → ◌≡◌ {A = Written × List ℕ} (write_of c r out) (Ok tt, take (extent_of s) s ++ drop (extent_of s) out)
 unfolding record_of
 write_read s out c r b l e =
     let a = accepted s c r e in
@@ -105,23 +103,23 @@ write_read s out c r b l e =
     let z : size (layout_of (kind_number c r)) ≡ extent_of s = ap (λ (j : ℕ). size (layout_of j)) n ∙ sym x in
     let p : record_of c r ≡ take (extent_of s) s =
     (λ i. packed (layout_of (n i)) (f i)) ∙ packed_fields (layout_of k) s (row_sized k) a.whole b ∙ ap (λ (j : ℕ). take j s) (sym x) in
-    sym (write_done c r out a.allowed (omega arith)) ∙ (λ i. (written.Done, p i ++ drop (z i) out))
+    sym (write_done c r out a.allowed (omega arith)) ∙ (λ i. (Ok tt, p i ++ drop (z i) out))
 
 -- ---- written, and read again: the same fields
 
 -- what is written is the record, and the rest of the output
-done_bytes : (v : Verdict) (bytes out t : List ℕ) → ◌≡◌ {A = Written × List ℕ} (written_by v bytes out) (written.Done, t)
-    → (v ≡ verdict.Allowed) × (t ≡ bytes ++ drop (length bytes) out)
-done_bytes (verdict.Refused why) bytes out t e =
-    let w : written.Refused why ≡ written.Done = ap (λ (x : Written × List ℕ). x.0) e in
+done_bytes : (v : Verdict) (bytes out t : List ℕ) → ◌≡◌ {A = Written × List ℕ} (written_by v bytes out) (Ok tt, t)
+    → (v ≡ Ok tt) × (t ≡ bytes ++ drop (length bytes) out)
+done_bytes (Err why) bytes out t e =
+    let w : Err why ≡ (Ok tt) = ap (λ (x : Written × List ℕ). x.0) e in
     let z : ◌≡◌ {A = ℕ} 0 1 = cc in
     absurd (omega arith)
-done_bytes verdict.Allowed bytes out t e = (refl, go (ltb (length out) (length bytes)) e)
+done_bytes (Ok tt) bytes out t e = (refl, go (ltb (length out) (length bytes)) e)
   where
-    go : (b : Bool) → ◌≡◌ {A = Written × List ℕ} (cond b (written.Refused CutShort, out) (written.Done, bytes ++ drop (length bytes) out)) (written.Done, t)
+    go : (b : Bool) → ◌≡◌ {A = Written × List ℕ} (cond b (Err CutShort, out) (Ok tt, bytes ++ drop (length bytes) out)) (Ok tt, t)
         → t ≡ bytes ++ drop (length bytes) out
     go true f =
-        let w : written.Refused CutShort ≡ written.Done = ap (λ (x : Written × List ℕ). x.0) f in
+        let w : Err CutShort ≡ (Ok tt) = ap (λ (x : Written × List ℕ). x.0) f in
         let z : ◌≡◌ {A = ℕ} 0 1 = cc in
         absurd (omega arith)
     go false f = sym (ap (λ (x : Written × List ℕ). x.1) f)
@@ -156,7 +154,7 @@ read_record c r rest w b h =
     ∙ ap₂ heard_by (call_again c r) (source_again c r h)
 
 pub read_written : (c : Request) (r : Source) (out t : List ℕ) → Bytes out → length r.traffic ≡ 3
-    → ◌≡◌ {A = Written × List ℕ} (write_of c r out) (written.Done, t) → read_of t ≡ reading (told.Request c) (source_with c r)
+    → ◌≡◌ {A = Written × List ℕ} (write_of c r out) (Ok tt, t) → read_of t ≡ reading (Ok c) (source_with c r)
 unfolding write_of
 read_written c r out t b h e =
     let p = record_of c r in
@@ -167,11 +165,11 @@ read_written c r out t b h e =
 
 -- ---- the part
 
-pub part_read : (s : List ℕ) (c : Request) → (read_of s).told ≡ told.Request c → part_of s ≡ take (extent_of s) s
+pub part_read : (s : List ℕ) (c : Request) → (read_of s).told ≡ Ok c → part_of s ≡ take (extent_of s) s
 unfolding part_of
 part_read s c e = ap (λ (x : Told). part_by x s) e
 
-pub part_refused : (s : List ℕ) (why : Refusal) → (read_of s).told ≡ told.Refused why → part_of s ≡ []
+pub part_refused : (s : List ℕ) (why : Refusal) → (read_of s).told ≡ Err why → part_of s ≡ []
 unfolding part_of
 part_refused s why e = ap (λ (x : Told). part_by x s) e
 
@@ -192,8 +190,8 @@ kind_periods (suc (suc (suc (suc (suc (suc (suc (suc (suc zero))))))))) v = refl
 kind_periods (suc (suc (suc (suc (suc (suc (suc (suc (suc (suc k)))))))))) v = refl
 
 judged_periods : (v : Verdict) (c : Request) (s : Source) → length s.traffic ≡ 3 → length (judged v c s).source.traffic ≡ 3
-judged_periods verdict.Allowed c s e = e
-judged_periods (verdict.Refused why) c s e = refl
+judged_periods (Ok tt) c s e = e
+judged_periods (Err why) c s e = refl
 
 either_periods : (t : Bool) (a b : Reading) → length a.source.traffic ≡ 3 → length b.source.traffic ≡ 3 → length (cond t a b).source.traffic ≡ 3
 either_periods true a b p q = p

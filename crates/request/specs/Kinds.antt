@@ -1,13 +1,12 @@
 -- The kinds of record (METHOD 3): for each its layout, what its fields ask for, which are allowed, and its fields again.
 -- A new kind is a new row of `kinds` and a new line for its call below it.
-use Rattle.std.specs.Prelude.{ℕ, suc, ◌-◌, ◌^◌, max, List, [], ◌∷◌, ◌++◌, length, get_or, drop}
+use Rattle.std.specs.Prelude.{ℕ, suc, ◌-◌, ◌^◌, max, List, [], ◌∷◌, ◌++◌, length, get_or, drop, Ok}
 use Rattle.layout.specs.Layout.{size}
 use Rattle.course.specs.declared.Course.{Course}
 use Rattle.course.specs.declared.Course.TheVariants.{Uncut, Between}
 use Rattle.screen.specs.Screen.{wall_of}
 use Rattle.road.specs.declared.Source.{Source}
-use Rattle.road.specs.declared.Verdict.{Verdict}
-use Rattle.road.specs.declared.Verdict.TheVariants.{Allowed}
+use Rattle.road.specs.Results.{Verdict}
 use Rattle.road.specs.Fields.{piece_table, ends_table, source_table, receiver_table, wall_table, piece_of, ends_of, source_of, receiver_of, values_by, bits_by}
 use Rattle.road.specs.Judge.{source_fields, receiver_fields, wall_fields, source_verdict, receiver_verdict, wall_verdict, slot_verdict}
 use Rattle.daily.specs.Daily.{daily_bits, daily_fields, daily_of, counted, daily_verdict}
@@ -140,12 +139,12 @@ counts_verdict (ByDay p d) s = daily_verdict (Uncut p) d s
 -- whether it is allowed, by the limits of slots, receivers, sources and walls: refusals 5, 6 and 7
 unfoldable pub verdict_of : Request → Source → Verdict
 verdict_of (PlaceReceiver slot r) s = slot_verdict last_named_receiver slot (receiver_verdict r)
-verdict_of (WithdrawReceiver slot) s = slot_verdict last_named_receiver slot Allowed
+verdict_of (WithdrawReceiver slot) s = slot_verdict last_named_receiver slot (Ok tt)
 verdict_of (PlaceSource slot counts) s = slot_verdict last_named_source slot (counts_verdict counts s)
-verdict_of (WithdrawSource slot) s = slot_verdict last_named_source slot Allowed
-verdict_of (Ask slot) s = slot_verdict last_named_receiver slot Allowed
+verdict_of (WithdrawSource slot) s = slot_verdict last_named_source slot (Ok tt)
+verdict_of (Ask slot) s = slot_verdict last_named_receiver slot (Ok tt)
 verdict_of (PlaceWall slot w) s = slot_verdict last_named_wall slot (wall_verdict w)
-verdict_of (WithdrawWall slot) s = slot_verdict last_named_wall slot Allowed
+verdict_of (WithdrawWall slot) s = slot_verdict last_named_wall slot (Ok tt)
 
 -- its kind, which for a source depends on its course
 abbrev pub course_kind : Course → ℕ

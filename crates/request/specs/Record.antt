@@ -1,21 +1,24 @@
 -- What reading and writing a record give, for every input (METHOD 3 and 9); the kinds are those of `Kinds`.
 -- The refusals stand in the order of their numbers: the lowest that applies is given.
-use Rattle.std.specs.Prelude.{ℕ, Bool, cond, ◌||◌, List, [], ◌++◌, length, take, drop, leb, ltb, eqb}
+use Rattle.std.specs.Prelude.{ℕ, Bool, cond, ◌||◌, List, [], ◌++◌, length, take, drop, leb, ltb, eqb, Ok, Err, Result, ⊤}
 use Rattle.std.proofs.Math.Option.{Option, none, some}
 use Rattle.layout.specs.Layout.{size, bits, fields, packed}
 use Rattle.answer.specs.declared.Refusal.{Refusal}
 use Rattle.answer.specs.declared.Refusal.TheVariants.{CutShort, UnknownKind, Leftover}
 use Rattle.answer.specs.Table.{number_by, place_by}
 use Rattle.road.specs.declared.Source.{Source}
-use Rattle.road.specs.declared.Verdict.{Verdict}
-use Rattle.road.specs.declared.Verdict.TheVariants as verdict
+use Rattle.road.specs.Results.{Verdict}
 use Rattle.request.specs.declared.Request.{Request}
-use Rattle.request.specs.declared.Told.{Told}
-use Rattle.request.specs.declared.Told.TheVariants as told
 use Rattle.request.specs.declared.Reading.{Reading}
-use Rattle.request.specs.declared.Written.{Written}
-use Rattle.request.specs.declared.Written.TheVariants as written
 use Rattle.request.specs.Kinds.{kind_bits, blank, layout_of, call_in, source_in, leftover_of, verdict_of, kind_number, fields_of}
+
+-- what a reading tells: a call, or why there is none
+abbrev pub Told : Type 0
+Told = Result Request Refusal
+
+-- what comes of writing
+abbrev pub Written : Type 0
+Written = Result ⊤ Refusal
 
 -- ---- the record at the front of the bytes s
 
@@ -51,12 +54,12 @@ reading t s = record { told = t; source = s }
 
 -- a refusal tells nothing else
 abbrev pub refused : Refusal → Reading
-refused why = reading (told.Refused why) blank
+refused why = reading (Err why) blank
 
 -- refusals 5, 6 and 7: fields that are not allowed
 abbrev pub judged : Verdict → Request → Source → Reading
-judged verdict.Allowed call source = reading (told.Request call) source
-judged (verdict.Refused why) call source = refused why
+judged (Ok tt) call source = reading (Ok call) source
+judged (Err why) call source = refused why
 
 -- a call, if it is allowed
 abbrev pub heard_by : Request → Source → Reading
@@ -80,8 +83,8 @@ extent_of s = cond (leb (length_of s) (length s)) (length_of s) 0
 
 -- a refusal's part is empty
 abbrev pub part_by : Told → List ℕ → List ℕ
-part_by (told.Request call) s = take (extent_of s) s
-part_by (told.Refused why) s = []
+part_by (Ok call) s = take (extent_of s) s
+part_by (Err why) s = []
 
 -- the record as a part of the caller's own bytes
 unfoldable pub part_of : List ℕ → List ℕ
@@ -95,9 +98,9 @@ record_of call source = packed (layout_of (kind_number call source)) (fields_of 
 
 -- refusals 5, 6 and 7; then 2, if the output is shorter than the record. The bytes past the record stay.
 abbrev pub written_by : Verdict → List ℕ → List ℕ → Written × List ℕ
-written_by (verdict.Refused why) bytes out = (written.Refused why, out)
-written_by verdict.Allowed bytes out =
-    cond (ltb (length out) (length bytes)) (written.Refused CutShort, out) (written.Done, bytes ++ drop (length bytes) out)
+written_by (Err why) bytes out = (Err why, out)
+written_by (Ok tt) bytes out =
+    cond (ltb (length out) (length bytes)) (Err CutShort, out) (Ok tt, bytes ++ drop (length bytes) out)
 
 -- the answer, and the output as it then is
 unfoldable pub write_of : Request → Source → List ℕ → Written × List ℕ
@@ -106,8 +109,8 @@ write_of call source out = written_by (verdict_of call source) (record_of call s
 -- ---- number and place of what a reading tells, and of what comes of writing
 
 abbrev pub refusal_told : Told → Option Refusal
-refusal_told (told.Request call) = none
-refusal_told (told.Refused why) = some why
+refusal_told (Ok call) = none
+refusal_told (Err why) = some why
 
 abbrev pub number_told : Told → ℕ
 number_told t = number_by (refusal_told t)
@@ -116,8 +119,8 @@ abbrev pub place_told : Told → ℕ
 place_told t = place_by (refusal_told t)
 
 abbrev pub refusal_written : Written → Option Refusal
-refusal_written written.Done = none
-refusal_written (written.Refused why) = some why
+refusal_written (Ok tt) = none
+refusal_written (Err why) = some why
 
 abbrev pub number_written : Written → ℕ
 number_written w = number_by (refusal_written w)

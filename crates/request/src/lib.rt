@@ -29,13 +29,10 @@ pub enum Request {
 }
 
 // What a reading tells: a call, or why there is none.
-#[derive(Clone, Copy)]
-pub enum Told {
-    Request(Request),
-    Refused(Refusal),
-}
+pub type Told = Result<Request, Refusal>;
 
 // A reading. The source is the road of PlaceSource, by its daily figure the one that it stands for; all zero otherwise.
+// It stands beside the call, and not in it: so do the theorems on round trips (record/specs/Trips.antt) speak of the two.
 #[derive(Clone, Copy)]
 pub struct Reading {
     pub told: Told,
@@ -43,11 +40,7 @@ pub struct Reading {
 }
 
 // What comes of writing.
-#[derive(Clone, Copy)]
-pub enum Written {
-    Done,
-    Refused(Refusal),
-}
+pub type Written = Result<(), Refusal>;
 
 // The sizes of a kind's layout.
 #[derive(Clone, Copy)]

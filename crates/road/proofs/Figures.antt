@@ -1,5 +1,6 @@
 -- All the figures that are proved are those on paper: one test, computed over one table; and by them the pairs of the 25 m case and of the 100 m case.
 -- Assumes nothing.
+use Rattle.std.specs.Prelude.{Ok}
 use mathlib.Core.Path.{◌≡◌, refl, ap, ◌∙◌}
 use mathlib.Core.Bool.{Bool, true, false, ◌&&◌, ◌||◌}
 use mathlib.Core.List.{List, [], ◌∷◌}
@@ -18,8 +19,6 @@ use Rattle.screen.specs.Screen.{between, met_of, loss_of}
 use Rattle.screen.specs.Figures.{screens}
 use Rattle.road.specs.declared.Term.{Term}
 use Rattle.road.specs.declared.Shares.{Shares}
-use Rattle.road.specs.declared.Pair.TheVariants.{Heard}
-use Rattle.road.specs.declared.Verdict.TheVariants.{Allowed}
 use Rattle.road.specs.Judge.{rest_verdict, source_verdict, receiver_verdict}
 use Rattle.root.specs.Root.{root_of, rooted}
 use Rattle.road.specs.Emission.{traffic_term, car_level, truck_level, speed_term, surface_term, gradient_term, reflection_term}
@@ -61,15 +60,15 @@ energy t n e = energy_from_zero t.up t.down (omega arith) ∙ ap energy_of e
 soft : (t : Term) (n : ℕ) → above t ≡ n → n ≤ loudest → too_loud t ≡ false
 soft t n e h = le-ltb loudest (above t) (omega arith)
 
-pub near_allowed : source_verdict (road 102500) ≡ Allowed
+pub near_allowed : source_verdict (road 102500) ≡ Ok tt
 unfolding source_verdict rest_verdict car_level truck_level level_of up_to decades table first_quarter second_quarter third_quarter fourth_quarter
 near_allowed = refl
 
-pub far_allowed : source_verdict (road 110000) ≡ Allowed
+pub far_allowed : source_verdict (road 110000) ≡ Ok tt
 unfolding source_verdict rest_verdict car_level truck_level level_of up_to decades table first_quarter second_quarter third_quarter fourth_quarter
 far_allowed = refl
 
-pub home_allowed : receiver_verdict home ≡ Allowed
+pub home_allowed : receiver_verdict home ≡ Ok tt
 unfolding receiver_verdict
 home_allowed = refl
 
@@ -97,7 +96,7 @@ near_apart : space_square (piece 102500) home ≡ 6372500
 unfolding space_square plan_square
 near_apart = refl
 
-pub near_pair : pair_of [] (road 102500) home ≡ Heard (shares_at 6027 6027 5027)
+pub near_pair : pair_of [] (road 102500) home ≡ Ok (shares_at 6027 6027 5027)
 unfolding figures levels roads
 near_pair =
     let day = figure figures 25 figures_right in
@@ -105,14 +104,14 @@ near_pair =
     let night = figure figures 27 figures_right in
     pair_heard [] (road 102500) (piece 102500) home refl (omega (arith, near_apart)) (omega (arith, near_apart)) (omega (arith, near_apart)) (no_walls 102500)
     (quiet 102500 6027 6027 5027 day evening night (omega arith) (omega arith) (omega arith))
-    ∙ ap Heard (shares_are 102500 6027 6027 5027 day evening night)
+    ∙ ap Ok (shares_are 102500 6027 6027 5027 day evening night)
 
 -- the same road 100 m away: 42.93, 43.48 and 34.03 dB
 far_apart : space_square (piece 110000) home ≡ 100122500
 unfolding space_square plan_square
 far_apart = refl
 
-pub far_pair : pair_of [] (road 110000) home ≡ Heard (shares_at 4292 4347 3402)
+pub far_pair : pair_of [] (road 110000) home ≡ Ok (shares_at 4292 4347 3402)
 unfolding figures levels roads
 far_pair =
     let day = figure figures 28 figures_right in
@@ -120,4 +119,4 @@ far_pair =
     let night = figure figures 30 figures_right in
     pair_heard [] (road 110000) (piece 110000) home refl (omega (arith, far_apart)) (omega (arith, far_apart)) (omega (arith, far_apart)) (no_walls 110000)
     (quiet 110000 4292 4347 3402 day evening night (omega arith) (omega arith) (omega arith))
-    ∙ ap Heard (shares_are 110000 4292 4347 3402 day evening night)
+    ∙ ap Ok (shares_are 110000 4292 4347 3402 day evening night)

@@ -1,5 +1,6 @@
 -- What allowed fields tell: the bounds of each, that they fit a record and a slot, and that a truck is no quieter than a car.
 -- Assumes nothing.
+use Rattle.std.specs.Prelude.{Ok, Err}
 use mathlib.Core.Path.{◌≡◌, refl, subst}
 use mathlib.Core.Bool.{Bool, true, false, cond}
 use mathlib.Core.List.{List}
@@ -22,8 +23,7 @@ use Rattle.screen.specs.declared.Wall.{Wall}
 use Rattle.screen.specs.Plan.{WallOnPlan}
 use Rattle.road.specs.declared.Source.{Source}
 use Rattle.road.specs.declared.Receiver.{Receiver}
-use Rattle.road.specs.declared.Verdict.{Verdict}
-use Rattle.road.specs.declared.Verdict.TheVariants.{Allowed, Refused}
+use Rattle.road.specs.Results.{Verdict}
 use Rattle.road.specs.Term.{period}
 use Rattle.road.specs.Emission.{car_speed, truck_speed, car_level, truck_level}
 use Rattle.road.specs.Limits.{coordinate, longest, last_surface, last_reflection, most_vehicles, all_trucks, lowest_receiver, highest_receiver}
@@ -33,12 +33,12 @@ use Rattle.road.proofs.Rows.{wider}
 use Rattle.road.specs.Judge.{outside_by, unless_outside, slow_surface, quiet_truck, course_verdict, rest_verdict, source_verdict, receiver_verdict, wall_verdict}
 
 -- a verdict that allows has passed each test on its way
-pub passed : (b : Bool) (r : Refusal) (v : Verdict) → cond b (Refused r) v ≡ Allowed → (b ≡ false) × (v ≡ Allowed)
+pub passed : (b : Bool) (r : Refusal) (v : Verdict) → cond b (Err r) v ≡ Ok tt → (b ≡ false) × (v ≡ Ok tt)
 passed true r v e = absurd (let z : ◌≡◌ {A = ℕ} 0 1 = cc in omega arith)
 passed false r v e = (refl, e)
 
-module _ {A : Type 0} (t : List (Row A)) (a : A) (v : Verdict) (e : unless_outside t a v ≡ Allowed) where
-  pub past : (ltb (outside_by t a) (length t) ≡ false) × (v ≡ Allowed)
+module _ {A : Type 0} (t : List (Row A)) (a : A) (v : Verdict) (e : unless_outside t a v ≡ Ok tt) where
+  pub past : (ltb (outside_by t a) (length t) ≡ false) × (v ≡ Ok tt)
   past = passed (ltb (outside_by t a) (length t)) (Field (number_at t (outside_by t a))) v e
 
   -- each field has its bounds
@@ -79,7 +79,7 @@ ends_mapped e n =
     λ i h. (inside_at (least_by ends_table e) (most_by ends_table e) (values_by ends_table e) i (omega arith)).1 in
     record { x1 = omega (arith, b 0 (omega arith)); y1 = omega (arith, b 1 (omega arith)); x2 = omega (arith, b 2 (omega arith)); y2 = omega (arith, b 3 (omega arith)) }
 
-pub fit_course : (c : Course) (v : Verdict) → course_verdict c v ≡ Allowed → FitCourse c × (v ≡ Allowed)
+pub fit_course : (c : Course) (v : Verdict) → course_verdict c v ≡ Ok tt → FitCourse c × (v ≡ Ok tt)
 fit_course (Uncut p) v e =
     let b = bounded piece_table p v e in
     (record { x = (b 0 (omega arith)).1; y = (b 1 (omega arith)).1; some = (b 2 (omega arith)).0; short = (b 2 (omega arith)).1 }, (past piece_table p v e).1)
@@ -102,10 +102,10 @@ fit_whole (Uncut p) f = f
 fit_whole (Between e) f = fit_one e f
 
 -- each form of a course fits a record and a slot
-pub piece_within : (p : Piece) (v : Verdict) → unless_outside piece_table p v ≡ Allowed → Within (bits_by piece_table) (values_by piece_table p)
+pub piece_within : (p : Piece) (v : Verdict) → unless_outside piece_table p v ≡ Ok tt → Within (bits_by piece_table) (values_by piece_table p)
 piece_within p v e = fits piece_table p v e (bits_by piece_table) refl refl
 
-pub ends_within : (e : Ends) (v : Verdict) → unless_outside ends_table e v ≡ Allowed → Within (bits_by ends_table) (values_by ends_table e)
+pub ends_within : (e : Ends) (v : Verdict) → unless_outside ends_table e v ≡ Ok tt → Within (bits_by ends_table) (values_by ends_table e)
 ends_within e v h = fits ends_table e v h (bits_by ends_table) refl refl
 
 -- ---- the whole source
@@ -126,17 +126,17 @@ pub record FitSource (s : Source) : Type 0 where
   pub louder : car_level (car_speed s.car) ≤ truck_level (truck_speed s.truck)
 
 -- the verdict after the course
-pub rest_allowed : (s : Source) → source_verdict s ≡ Allowed → FitCourse s.course × (rest_verdict s ≡ Allowed)
+pub rest_allowed : (s : Source) → source_verdict s ≡ Ok tt → FitCourse s.course × (rest_verdict s ≡ Ok tt)
 unfolding source_verdict
 rest_allowed s e = fit_course s.course (rest_verdict s) e
 
-pub fit_source : (s : Source) → source_verdict s ≡ Allowed → FitSource s
+pub fit_source : (s : Source) → source_verdict s ≡ Ok tt → FitSource s
 unfolding rest_verdict
 fit_source s a =
     let e = (rest_allowed s a).1 in
-    let v : Verdict = cond (slow_surface s) (Refused SlowSurface) (cond (quiet_truck s) (Refused QuietTruck) Allowed) in
+    let v : Verdict = cond (slow_surface s) (Err SlowSurface) (cond (quiet_truck s) (Err QuietTruck) (Ok tt)) in
     let b = bounded source_table s v e in
-    let q = passed (slow_surface s) SlowSurface (cond (quiet_truck s) (Refused QuietTruck) Allowed) (past source_table s v e).1 in
+    let q = passed (slow_surface s) SlowSurface (cond (quiet_truck s) (Err QuietTruck) (Ok tt)) (past source_table s v e).1 in
     record {
       course = (rest_allowed s a).0;
       paved = (b 3 (omega arith)).0;
@@ -146,7 +146,7 @@ fit_source s a =
       day = record { few = (b 9 (omega arith)).1; part = (b 10 (omega arith)).1 };
       evening = record { few = (b 11 (omega arith)).1; part = (b 12 (omega arith)).1 };
       night = record { few = (b 13 (omega arith)).1; part = (b 14 (omega arith)).1 };
-      louder = ltb-false _ _ (passed (quiet_truck s) QuietTruck Allowed q.1).0;
+      louder = ltb-false _ _ (passed (quiet_truck s) QuietTruck (Ok tt) q.1).0;
     }
 
 -- the greatest values fit, whatever the gradient's sign and whether or not there are walls
@@ -159,13 +159,13 @@ most_under s = go (ltb s.gradient sign) refl (eqb s.walls 0) refl
     go false e true f = rw (e, f) refl
     go false e false f = rw (e, f) refl
 
-pub source_within : (s : Source) → rest_verdict s ≡ Allowed → Within (bits_by source_table) (values_by source_table s)
+pub source_within : (s : Source) → rest_verdict s ≡ Ok tt → Within (bits_by source_table) (values_by source_table s)
 unfolding rest_verdict
 source_within s e =
-    fits source_table s (cond (slow_surface s) (Refused SlowSurface) (cond (quiet_truck s) (Refused QuietTruck) Allowed)) e
+    fits source_table s (cond (slow_surface s) (Err SlowSurface) (cond (quiet_truck s) (Err QuietTruck) (Ok tt))) e
     (bits_by source_table) (most_under s) refl
 
-pub source_in_slot : (s : Source) → rest_verdict s ≡ Allowed → Within (slot_bits_by source_table) (values_by source_table s)
+pub source_in_slot : (s : Source) → rest_verdict s ≡ Ok tt → Within (slot_bits_by source_table) (values_by source_table s)
 source_in_slot s e = wider source_table (values_by source_table s) refl (source_within s e)
 
 pub record FitReceiver (r : Receiver) : Type 0 where
@@ -174,33 +174,33 @@ pub record FitReceiver (r : Receiver) : Type 0 where
   pub low : lowest_receiver ≤ r.height
   pub high : r.height ≤ highest_receiver
 
-pub fit_receiver : (r : Receiver) → receiver_verdict r ≡ Allowed → FitReceiver r
+pub fit_receiver : (r : Receiver) → receiver_verdict r ≡ Ok tt → FitReceiver r
 unfolding receiver_verdict
 fit_receiver r e =
-    let b = bounded receiver_table r Allowed e in
+    let b = bounded receiver_table r (Ok tt) e in
     record { x = (b 0 (omega arith)).1; y = (b 1 (omega arith)).1; low = (b 2 (omega arith)).0; high = (b 2 (omega arith)).1 }
 
-pub receiver_within : (r : Receiver) → receiver_verdict r ≡ Allowed → Within (bits_by receiver_table) (values_by receiver_table r)
+pub receiver_within : (r : Receiver) → receiver_verdict r ≡ Ok tt → Within (bits_by receiver_table) (values_by receiver_table r)
 unfolding receiver_verdict
-receiver_within r e = fits receiver_table r Allowed e (bits_by receiver_table) refl refl
+receiver_within r e = fits receiver_table r (Ok tt) e (bits_by receiver_table) refl refl
 
-pub receiver_in_slot : (r : Receiver) → receiver_verdict r ≡ Allowed → Within (slot_bits_by receiver_table) (values_by receiver_table r)
+pub receiver_in_slot : (r : Receiver) → receiver_verdict r ≡ Ok tt → Within (slot_bits_by receiver_table) (values_by receiver_table r)
 receiver_in_slot r e = wider receiver_table (values_by receiver_table r) refl (receiver_within r e)
 
 -- a wall stands on the plan
-pub fit_wall : (w : Wall) → wall_verdict w ≡ Allowed → WallOnPlan w
+pub fit_wall : (w : Wall) → wall_verdict w ≡ Ok tt → WallOnPlan w
 unfolding wall_verdict
 fit_wall w e =
-    let b = bounded wall_table w Allowed e in
+    let b = bounded wall_table w (Ok tt) e in
     record {
       from = record { x = omega (arith, (b 0 (omega arith)).1); y = omega (arith, (b 1 (omega arith)).1) };
       to = record { x = omega (arith, (b 2 (omega arith)).1); y = omega (arith, (b 3 (omega arith)).1) };
       low = (b 4 (omega arith)).1;
     }
 
-pub wall_within : (w : Wall) → wall_verdict w ≡ Allowed → Within (bits_by wall_table) (values_by wall_table w)
+pub wall_within : (w : Wall) → wall_verdict w ≡ Ok tt → Within (bits_by wall_table) (values_by wall_table w)
 unfolding wall_verdict
-wall_within w e = fits wall_table w Allowed e (bits_by wall_table) refl refl
+wall_within w e = fits wall_table w (Ok tt) e (bits_by wall_table) refl refl
 
-pub wall_in_slot : (w : Wall) → wall_verdict w ≡ Allowed → Within (slot_bits_by wall_table) (values_by wall_table w)
+pub wall_in_slot : (w : Wall) → wall_verdict w ≡ Ok tt → Within (slot_bits_by wall_table) (values_by wall_table w)
 wall_in_slot w e = wider wall_table (values_by wall_table w) refl (wall_within w e)

@@ -1,5 +1,6 @@
 -- What callers may use of a pair: what one piece and two parts of a road make, and that an accepted share is at most 10^15.
 -- First, that the code's way of adding up gives the definition's. Assumes nothing.
+use Rattle.std.specs.Prelude.{Some, None, Ok, Err}
 use mathlib.Core.Path.{◌≡◌, refl, sym, ap, ◌∙◌, subst}
 use mathlib.Core.Logic.{◌≢◌}
 use mathlib.Core.Bool.{Bool, true, false, cond, ◌||◌}
@@ -10,6 +11,7 @@ use native.Mathlib.Nat.{sub-le, mul_comm, mul-le-mul_left, div-le_of_le-mul, add
 use native.Mathlib.Decide.{dec_le}
 use native.Mathlib.Omega.{arith}
 use lib.ListN.{get_or}
+use Rattle.std.specs.Prelude.{Some, None}
 use lib.Dec.{leb, ltb, eqb}
 use borrow.Author.Tests.{lt-ltb, le-ltb, le-leb, lt-leb, ltb-true, ltb-false}
 use Rattle.level.specs.Level.{energy_of, energy_at}
@@ -23,21 +25,16 @@ use Rattle.course.specs.declared.Course.TheVariants.{Uncut, Between}
 use Rattle.course.specs.Course.{square, pieces_between, Fits, Every}
 use Rattle.course.proofs.Rule.{of_courses}
 use Rattle.screen.specs.declared.Wall.{Wall}
-use Rattle.screen.specs.declared.Loss.{Loss}
-use Rattle.screen.specs.declared.Loss.TheVariants.{Off, Twice}
 use Rattle.screen.specs.Plan.{point}
-use Rattle.screen.specs.Screen.{is_twice, taken_off, loss_by, loss_of}
+use Rattle.screen.specs.Screen.{Loss, is_twice, taken_off, loss_by, loss_of}
 use Rattle.screen.proofs.Lists.{met_any_order}
 use Rattle.road.specs.declared.Term.{Term}
 use Rattle.road.specs.declared.Source.{Source}
 use Rattle.road.specs.declared.Receiver.{Receiver}
-use Rattle.road.specs.declared.Voice.{Voice}
 use Rattle.road.specs.declared.Shares.{Shares}
 use Rattle.road.specs.declared.Bar.{Bar}
 use Rattle.road.specs.declared.Bar.TheVariants.{Near, Far, Long, Loud, Walls}
-use Rattle.road.specs.declared.Pair.{Pair}
-use Rattle.road.specs.declared.Pair.TheVariants.{Heard, Barred}
-use Rattle.road.specs.declared.Part.{Part}
+use Rattle.road.specs.Results.{Voice, Part, Pair}
 use Rattle.road.specs.Term.{◌⊕◌, period}
 use Rattle.road.specs.Emission.{emission_level}
 use Rattle.road.specs.Reach.{plan_square, space_square, length_term, distance_term, ground_term, screen_between, obstacle_term, walls_term, weather_term, weather_of, ray_height, share_level, energy_share, too_loud, share_of, loud_in, shares_of, sum_of, shares_over, bar_of, first_or, first_bar, any_of, unless_walls, unless_loud, unless_barred, pair_over, two_walls, pair_of, pieces_for, piece_alone, nearest, farthest, loudest, Promises}
@@ -107,34 +104,25 @@ loud_is t = go (dec_le (t.up - t.down) loudest)
         let l : most_share < energy_at t.up t.down = omega (arith, top, energy_from_zero t.up t.down (omega arith), energy_rising loudest (t.up - t.down) (omega arith)) in
         lt-ltb loudest (t.up - t.down) (omega arith) ∙ sym (lt-ltb most_share _ l)
 
--- a part that is too loud has no energy
+-- the energy of a part, or that it is too loud
 part_with : ℕ → Part
-part_with e = record { loud = ltb most_share e; energy = cond (ltb most_share e) 0 e }
+part_with e = cond (ltb most_share e) (Err Loud) (Ok e)
 
 part_is : (v : Voice) (t : Term) → voiced_part v t ≡ part_with (voiced_share v t)
 unfolding voiced_part part_with
-part_is v t = go v.sounds
-  where
-    chosen : Bool → ℕ → Part
-    chosen b n = cond b (record { loud = true; energy = 0 }) (record { loud = false; energy = n })
-
-    split : (b : Bool) (n : ℕ) → chosen b n ≡ record { loud = b; energy = cond b 0 n }
-    split true n = refl
-    split false n = refl
-
-    go : (b : Bool)
-        → cond b (chosen (too_loud (v.level ⊕ t)) (energy_share (v.level ⊕ t))) (record { loud = false; energy = 0 })
-        ≡ record { loud = ltb most_share (cond b (energy_share (v.level ⊕ t)) 0); energy = cond (ltb most_share (cond b (energy_share (v.level ⊕ t)) 0)) 0 (cond b (energy_share (v.level ⊕ t)) 0) }
-    go true = ap (λ (b : Bool). chosen b (energy_share (v.level ⊕ t))) (loud_is (v.level ⊕ t)) ∙ split (ltb most_share (energy_share (v.level ⊕ t))) (energy_share (v.level ⊕ t))
-    go false = refl
+part_is None t = refl
+part_is (Some l) t = ap (λ (b : Bool). cond {A = Part} b (Err Loud) (Ok (energy_share (l ⊕ t)))) (loud_is (l ⊕ t))
 
 pair_by_is : (x y z : ℕ) → pair_by (part_with x) (part_with y) (part_with z) ≡ unless_loud (record { day = x; evening = y; night = z })
 unfolding part_with
 pair_by_is x y z = go (ltb most_share x) (ltb most_share y) (ltb most_share z)
   where
+    h : Shares
+    h = record { day = x; evening = y; night = z }
+
     go : (a b d : Bool)
-        → cond (a || b || d) (Barred Loud) (Heard (record { day = cond a 0 x; evening = cond b 0 y; night = cond d 0 z }))
-        ≡ cond (a || b || d) (Barred Loud) (Heard (record { day = x; evening = y; night = z }))
+        → pair_by (cond a (Err Loud) (Ok x)) (cond b (Err Loud) (Ok y)) (cond d (Err Loud) (Ok z))
+        ≡ cond {A = Pair} (a || b || d) (Err Loud) (Ok h)
     go true b d = refl
     go false true d = refl
     go false false true = refl
@@ -174,7 +162,7 @@ voiced_is ws s p r i = go (eqb (period s i).m 0)
     t = way_for ws r p i
 
     sent : Voice
-    sent = record { sounds = true; level = emission_level s i ⊕ walls_term s.walls s.height s.spacing }
+    sent = Some (emission_level s i ⊕ walls_term s.walls s.height s.spacing)
 
     go : (b : Bool) → voiced_share (cond b silent sent) t ≡ cond b 0 (energy_share (share_level ws s p r i))
     go true = refl
@@ -217,7 +205,7 @@ module _ (p : Piece) (r : Receiver) where
       rw (le-ltb (space_square p r) nearest a, le-ltb farthest (space_square p r) b, le-ltb (space_square p r) (4 * square p.length) h, bar_of)
 
   -- and so of that piece by itself
-  pub one_barred : (f : Piece → ℕ → ℕ) (two : Piece → Bool) (b : Bar) → bar_of p r ≡ some b → pair_over f two r (p ∷ []) ≡ Barred b
+  pub one_barred : (f : Piece → ℕ → ℕ) (two : Piece → Bool) (b : Bar) → bar_of p r ≡ some b → pair_over f two r (p ∷ []) ≡ Err b
   one_barred f two b e = ap (λ (o : Option Bar). unless_barred (first_or o none) (unless_walls (any_of two (p ∷ [])) (unless_loud (shares_over f (p ∷ []))))) e
 
   module _ (ws : List Wall) (vs : List Voice) (e : bar_of p r ≡ none) where
@@ -228,13 +216,13 @@ module _ (p : Piece) (r : Receiver) where
         ap (λ (o : Option Bar). unless_barred (first_or o none) (unless_walls (any_of (two_walls ws r) (p ∷ [])) (unless_loud (shares_over (share_by ws vs r) (p ∷ []))))) e
         ∙ ap (λ (k : Loss). unless_walls (is_twice k || false) (unless_loud (shares_over (share_by ws vs r) (p ∷ [])))) f
 
-    pub one_walled : screen_between ws p r ≡ Twice → pair_over (share_by ws vs r) (two_walls ws r) r (p ∷ []) ≡ Barred Walls
-    one_walled f = by_loss Twice f
+    pub one_walled : screen_between ws p r ≡ None → pair_over (share_by ws vs r) (two_walls ws r) r (p ∷ []) ≡ Err Walls
+    one_walled f = by_loss None f
 
-    pub one_heard : (d : ℕ) → screen_between ws p r ≡ Off d
+    pub one_heard : (d : ℕ) → screen_between ws p r ≡ Some d
         → pair_over (share_by ws vs r) (two_walls ws r) r (p ∷ []) ≡ hear_of vs (length_term p.length) (plan_square p r) (space_square p r) (ray_height r) d
     one_heard d f =
-        by_loss (Off d) f ∙ sym (hear_is ws vs p r)
+        by_loss (Some d) f ∙ sym (hear_is ws vs p r)
         ∙ ap (λ (k : Loss). hear_of vs (length_term p.length) (plan_square p r) (space_square p r) (ray_height r) (taken_off k)) f
 
 -- ---- two parts of a road
@@ -339,22 +327,22 @@ placed_rank Long h = refl
 placed_rank Loud h = absurd h
 placed_rank Walls h = absurd h
 
-first_bar_lem : (a b : Bar) → rank a ≤ rank b → Barred a ≡ Barred (earlier a b)
-first_bar_lem a b h = sym (ap (λ (t : Bool). Barred (cond t a b)) (le-leb (rank a) (rank b) h))
+first_bar_lem : (a b : Bar) → rank a ≤ rank b → ◌≡◌ {A = Pair} (Err a) (Err (earlier a b))
+first_bar_lem a b h = sym (ap {B = Pair} (λ (t : Bool). Err (cond t a b)) (le-leb (rank a) (rank b) h))
 
-second_bar : (a b : Bar) → rank b < rank a → Barred b ≡ Barred (earlier a b)
-second_bar a b h = sym (ap (λ (t : Bool). Barred (cond t a b)) (lt-leb (rank a) (rank b) h))
+second_bar : (a b : Bar) → rank b < rank a → ◌≡◌ {A = Pair} (Err b) (Err (earlier a b))
+second_bar a b h = sym (ap {B = Pair} (λ (t : Bool). Err (cond t a b)) (lt-leb (rank a) (rank b) h))
 
-placed_first : (b : Bar) → Placed (some b) → (q : Pair) → Barred b ≡ joined (Barred b) q
+placed_first : (b : Bar) → Placed (some b) → (q : Pair) → Err b ≡ joined (Err b) q
 unfolding joined
-placed_first b h (Heard y) = refl
-placed_first b h (Barred a) = first_bar_lem b a (omega (arith, placed_rank b h))
+placed_first b h (Ok y) = refl
+placed_first b h (Err a) = first_bar_lem b a (omega (arith, placed_rank b h))
 
-placed_second : (b : Bar) → Placed (some b) → (two : Bool) (x : Shares) → Barred b ≡ joined (rest two x) (Barred b)
+placed_second : (b : Bar) → Placed (some b) → (two : Bool) (x : Shares) → Err b ≡ joined (rest two x) (Err b)
 unfolding joined
 placed_second b h two x = go two (is_loud x)
   where
-    go : (t u : Bool) → Barred b ≡ joined (cond t (Barred Walls) (cond u (Barred Loud) (Heard x))) (Barred b)
+    go : (t u : Bool) → Err b ≡ joined (cond t (Err Walls) (cond u (Err Loud) (Ok x))) (Err b)
     go true u = second_bar Walls b (omega (arith, placed_rank b h))
     go false true = second_bar Loud b (omega (arith, placed_rank b h))
     go false false = refl
@@ -363,11 +351,11 @@ rest_join : (t u : Bool) (x y : Shares) → rest (t || u) (added_shares x y) ≡
 unfolding joined
 rest_join t u x y = go t u (is_loud x) refl (is_loud y) refl
   where
-    both : (l : Bool) → is_loud (added_shares x y) ≡ l → unless_loud (added_shares x y) ≡ cond l (Barred Loud) (Heard (added_shares x y))
-    both l e = ap (λ (w : Bool). cond w (Barred Loud) (Heard (added_shares x y))) e
+    both : (l : Bool) → is_loud (added_shares x y) ≡ l → unless_loud (added_shares x y) ≡ cond l (Err Loud) (Ok (added_shares x y))
+    both l e = ap (λ (w : Bool). cond w (Err Loud) (Ok (added_shares x y))) e
 
     go : (t u : Bool) (l : Bool) → is_loud x ≡ l → (m : Bool) → is_loud y ≡ m → rest (t || u) (added_shares x y)
-        ≡ joined (cond t (Barred Walls) (cond l (Barred Loud) (Heard x))) (cond u (Barred Walls) (cond m (Barred Loud) (Heard y)))
+        ≡ joined (cond t (Err Walls) (cond l (Err Loud) (Ok x))) (cond u (Err Walls) (cond m (Err Loud) (Ok y)))
     go true true l e m f = refl
     go true false l e true f = refl
     go true false l e false f = refl
@@ -396,7 +384,7 @@ or_false : (a b : Bool) → (a || b) ≡ false → (a ≡ false) × (b ≡ false
 or_false true b e = absurd (let z : ◌≡◌ {A = ℕ} 0 1 = cc in omega arith)
 or_false false b e = (refl, e)
 
-nothing_brought : (b : Bar) (i : ℕ) → share_in (Barred b) i ≤ most_share
+nothing_brought : (b : Bar) (i : ℕ) → share_in (Err b) i ≤ most_share
 nothing_brought b zero = omega arith
 nothing_brought b (suc zero) = omega arith
 nothing_brought b (suc (suc zero)) = omega arith
@@ -412,7 +400,7 @@ unless_loud_bounded h i = go (is_loud h) refl
     three (suc (suc zero)) x y z = z
     three (suc (suc (suc i))) x y z = omega arith
 
-    go : (t : Bool) → is_loud h ≡ t → share_in (cond t (Barred Loud) (Heard h)) i ≤ most_share
+    go : (t : Bool) → is_loud h ≡ t → share_in (cond t (Err Loud) (Ok h)) i ≤ most_share
     go true e = nothing_brought Loud i
     go false e =
         let a = or_false (ltb most_share h.day || ltb most_share h.evening) (ltb most_share h.night) e in
@@ -431,7 +419,7 @@ pub pair_bounded : (ws : List Wall) → Bounded (pair_of ws)
 unfolding pair_of
 pair_bounded ws s r i = over_bounded (λ p j. share_of ws s p r j) (two_walls ws r) r (pieces_for r s.course) i
 
-pub heard_most : (pair : Pairing) → Bounded pair → (s : Source) (r : Receiver) (h : Shares) → pair s r ≡ Heard h → (i : ℕ) → share_in (Heard h) i ≤ most_share
+pub heard_most : (pair : Pairing) → Bounded pair → (s : Source) (r : Receiver) (h : Shares) → pair s r ≡ Ok h → (i : ℕ) → share_in (Ok h) i ≤ most_share
 heard_most pair bounded s r h e i = subst (λ (p : Pair). share_in p i ≤ most_share) e (bounded s r i)
 
 -- ---- the promises of the two courses
@@ -445,12 +433,12 @@ loud_in_lem ws s p r i = go (eqb (period s i).m 0)
     go false = loud_is (share_level ws s p r i)
 
 alone : (ws : List Wall) (s : Source) (p : Piece) (r : Receiver)
-    → unless_loud (shares_over (λ q i. share_of ws s q r i) (p ∷ [])) ≡ cond (loud_in ws s p r 0 || loud_in ws s p r 1 || loud_in ws s p r 2) (Barred Loud) (Heard (shares_of ws s p r))
+    → unless_loud (shares_over (λ q i. share_of ws s q r i) (p ∷ [])) ≡ cond (loud_in ws s p r 0 || loud_in ws s p r 1 || loud_in ws s p r 2) (Err Loud) (Ok (shares_of ws s p r))
 unfolding shares_of
 alone ws s p r =
     (λ j. unless_loud (record { day = add-zero (share_of ws s p r 0) j; evening = add-zero (share_of ws s p r 1) j; night = add-zero (share_of ws s p r 2) j }))
-    ∙ sym (λ j. cond (loud_in_lem ws s p r 0 j || loud_in_lem ws s p r 1 j || loud_in_lem ws s p r 2 j) (Barred Loud)
-    (Heard (record { day = share_of ws s p r 0; evening = share_of ws s p r 1; night = share_of ws s p r 2 })))
+    ∙ sym (λ j. cond (loud_in_lem ws s p r 0 j || loud_in_lem ws s p r 1 j || loud_in_lem ws s p r 2 j) (Err Loud)
+    (Ok (record { day = share_of ws s p r 0; evening = share_of ws s p r 1; night = share_of ws s p r 2 })))
 
 uncut : (ws : List Wall) (s : Source) (r : Receiver) (p : Piece) → s.course ≡ Uncut p → pair_of ws s r ≡ piece_alone ws s p r
 unfolding pair_of bar_of
@@ -460,7 +448,7 @@ uncut ws s r p e =
   where
     go : (a b d t : Bool)
         → unless_barred (first_or (cond a (some Near) (cond b (some Far) (cond d (some Long) none))) none) (rest (t || false) (shares_over (λ q i. share_of ws s q r i) (p ∷ [])))
-        ≡ cond a (Barred Near) (cond b (Barred Far) (cond d (Barred Long) (cond t (Barred Walls) (cond (loud_in ws s p r 0 || loud_in ws s p r 1 || loud_in ws s p r 2) (Barred Loud) (Heard (shares_of ws s p r))))))
+        ≡ cond a (Err Near) (cond b (Err Far) (cond d (Err Long) (cond t (Err Walls) (cond (loud_in ws s p r 0 || loud_in ws s p r 1 || loud_in ws s p r 2) (Err Loud) (Ok (shares_of ws s p r))))))
     go true b d t = refl
     go false true d t = refl
     go false false true t = refl
@@ -493,10 +481,10 @@ first_short r (p ∷ ps) h = go (bar_of p r) (bar_short p r h.0) (first_short r 
     go none k l = l
 
 abbrev NotLong : Pair → Type 0
-NotLong (Heard h) = Unit
-NotLong (Barred b) = Short (some b)
+NotLong (Ok h) = Unit
+NotLong (Err b) = Short (some b)
 
-never_long : (ws : List Wall) (s : Source) (r : Receiver) (e : Ends) → s.course ≡ Between e → pair_of ws s r ≢ Barred Long
+never_long : (ws : List Wall) (s : Source) (r : Receiver) (e : Ends) → s.course ≡ Between e → pair_of ws s r ≢ Err Long
 unfolding pair_of
 never_long ws s r e c h =
     subst NotLong h
@@ -509,7 +497,7 @@ never_long ws s r e c h =
     x : Shares
     x = shares_over (λ p i. share_of ws s p r i) ps
 
-    quiet : (t u : Bool) → NotLong (cond t (Barred Walls) (cond u (Barred Loud) (Heard x)))
+    quiet : (t u : Bool) → NotLong (cond t (Err Walls) (cond u (Err Loud) (Ok x)))
     quiet true u = tt
     quiet false true = tt
     quiet false false = tt
@@ -541,7 +529,7 @@ of_pairs = record { uncut = uncut; never_long = never_long; any_order = any_orde
 -- the case of an uncut piece that is in reach and nowhere loud
 pub pair_heard : (ws : List Wall) (s : Source) (p : Piece) (r : Receiver) → s.course ≡ Uncut p
     → nearest ≤ space_square p r → space_square p r ≤ farthest → 4 * square p.length ≤ space_square p r → two_walls ws r p ≡ false
-    → (loud_in ws s p r 0 || loud_in ws s p r 1 || loud_in ws s p r 2) ≡ false → pair_of ws s r ≡ Heard (shares_of ws s p r)
+    → (loud_in ws s p r 0 || loud_in ws s p r 1 || loud_in ws s p r 2) ≡ false → pair_of ws s r ≡ Ok (shares_of ws s p r)
 pair_heard ws s p r c a b h t e =
     uncut ws s r p c
     ∙ rw (le-ltb (space_square p r) nearest a, le-ltb farthest (space_square p r) b, le-ltb (space_square p r) (4 * square p.length) h, t, e) refl

@@ -23,7 +23,7 @@ level_settled l a = settled _ _
 lv_settled : SettlesResult level.lv.Reads.Post
 lv_settled l a = settled _ _
 
-steps_settled : SettlesResult level.table.steps.Reads.Post
+steps_settled : Settles (λ l a r e. r.now) level.table.steps.Reads.Post
 steps_settled l a = settled _ _
 
 step_settled : SettlesResult level.table.step.Reads.Post
@@ -89,9 +89,6 @@ counts_settled l a = settled _ _
 fraction_settled : SettlesResult screen.plan.fraction.Reads.Post
 fraction_settled l a = settled _ _
 
-apart_settled : SettlesResult screen.plan.apart.Reads.Post
-apart_settled l a = settled _ _
-
 cut_settled : SettlesResult screen.section.cut.Reads.Post
 cut_settled l a = settled _ _
 
@@ -118,8 +115,8 @@ highest_settled l a = settled _ _
 last_line_settled : SettlesResult root.last_line.Reads.Post
 last_line_settled l a = settled _ _
 
-last_lines_settled : SettlesResult root.last_lines.Reads.Post
-last_lines_settled l a = settled _ _
+roots_settled : SettlesResult root.roots.Reads.Post
+roots_settled l a = settled _ _
 
 -- ---- the root, whose contract is two inequalities
 

@@ -14,7 +14,9 @@ use Rattle.level.proofs.Every.{and_left, and_right}
 use Rattle.road.specs.declared.Term.{Term}
 use Rattle.road.specs.declared.Traffic.{Traffic}
 use Rattle.road.specs.declared.Source.{Source}
-use Rattle.road.specs.declared.Voice.{Voice}
+use Rattle.std.specs.Prelude.{Some, None, Ok, Err}
+use Rattle.road.specs.declared.Bar.TheVariants.{Loud}
+use Rattle.road.specs.Results.{Voice}
 use Rattle.road.specs.declared.Pace.{Pace}
 use Rattle.road.specs.Term.{◌⊕◌, period}
 use Rattle.road.specs.Emission.{vehicles, traffic_term, car_speed, truck_speed, truck_gain, speed_term, surface_table, surface_column, surface_entry, surface_term, gradient_term, reflection_table, reflection_term}
@@ -145,7 +147,7 @@ small_length l a b = record { up = omega (arith, lv_small l a (omega arith)); do
 -- what is worked out apart is what the definition adds up in one row
 pub voice_is : (s : Source) (i : ℕ) → voice_by s.lanes (pace_of s) (steady_term s) (period s i) ≡ voice_of s i
 unfolding voice_of speed_term
-voice_is s i = ap (cond (eqb (period s i).m 0) silent) (λ j. record { sounds = true; level = same j })
+voice_is s i = ap (cond (eqb (period s i).m 0) silent) (λ j. Some (same j))
   where
     t : Term
     t = traffic_term s.lanes (period s i)
@@ -196,17 +198,17 @@ moderate s f = record { day = modest s 0 f.day; evening = modest s 1 f.evening; 
 
 -- ---- the share of a voice, case by case: u and d are the two sides of its level at the point
 
-pub part_silent : (v : Voice) (t : Term) → v.sounds ≡ false → voiced_part v t ≡ record { loud = false; energy = 0 }
+pub part_silent : (t : Term) → voiced_part None t ≡ Ok 0
 unfolding voiced_part
-part_silent v t e = rw (e, voiced_part)
+part_silent t = refl
 
-module _ (v : Voice) (t : Term) (u d : ℕ) (e : v.sounds ≡ true) (up : u ≡ v.level.up + t.up) (down : d ≡ v.level.down + t.down) where
-  pub part_loud : loudest < u - d → voiced_part v t ≡ record { loud = true; energy = 0 }
+module _ (l t : Term) (u d : ℕ) (up : u ≡ l.up + t.up) (down : d ≡ l.down + t.down) where
+  pub part_loud : loudest < u - d → voiced_part (Some l) t ≡ Err Loud
   unfolding voiced_part
-  part_loud h = rw (e, lt-ltb loudest ((v.level ⊕ t).up - (v.level ⊕ t).down) (omega arith), voiced_part)
+  part_loud h = rw (lt-ltb loudest ((l ⊕ t).up - (l ⊕ t).down) (omega arith), voiced_part)
 
-  pub part_heard : u - d ≤ loudest → voiced_part v t ≡ record { loud = false; energy = energy_at u d }
+  pub part_heard : u - d ≤ loudest → voiced_part (Some l) t ≡ Ok (energy_at u d)
   unfolding voiced_part energy_share
   part_heard h =
-      rw (e, le-ltb loudest ((v.level ⊕ t).up - (v.level ⊕ t).down) (omega arith), voiced_part, energy_share)
-      (λ i. record { loud = false; energy = energy_at (sym up i) (sym down i) })
+      rw (le-ltb loudest ((l ⊕ t).up - (l ⊕ t).down) (omega arith), voiced_part, energy_share)
+      (λ i. Ok (energy_at (sym up i) (sym down i)))

@@ -1,6 +1,6 @@
 -- Values that only inner functions of this crate and of reach hand on: what a road sends out, and a share before it is told to the caller.
 -- A reader of the promises can pass over this file.
-use Rattle.std.specs.Prelude.{ℕ, ◌+◌, ◌-◌, ◌*◌, ◌≤◌, true, false, cond, ◌||◌, List, [], ◌∷◌, get_or, leb, eqb}
+use Rattle.std.specs.Prelude.{ℕ, ◌+◌, ◌-◌, ◌*◌, ◌≤◌, true, false, cond, ◌||◌, List, [], ◌∷◌, get_or, leb, eqb, Some, None, Ok, Err}
 use Rattle.root.specs.Root.{root_of}
 use Rattle.course.specs.declared.Piece.{Piece}
 use Rattle.course.specs.Course.{whole_of}
@@ -12,16 +12,13 @@ use Rattle.road.specs.declared.Source.{Source}
 use Rattle.road.specs.declared.Receiver.{Receiver}
 use Rattle.road.specs.declared.Shares.{Shares}
 use Rattle.road.specs.declared.Traffic.{Traffic}
-use Rattle.road.specs.declared.Voice.{Voice}
-use Rattle.road.specs.declared.Part.{Part}
 use Rattle.road.specs.declared.Sent.{Sent}
 use Rattle.road.specs.declared.Pace.{Pace}
 use Rattle.road.specs.Term.{term, ◌⊕◌, period}
 use Rattle.road.specs.Emission.{emission_level, traffic_term, surface_term, gradient_term, reflection_term, car_speed, truck_speed, truck_gain, car_level}
 use Rattle.road.specs.declared.Bar.{Bar}
 use Rattle.road.specs.declared.Bar.TheVariants.{Near, Far, Long, Loud, Walls}
-use Rattle.road.specs.declared.Pair.{Pair}
-use Rattle.road.specs.declared.Pair.TheVariants.{Heard, Barred}
+use Rattle.road.specs.Results.{Voice, Part, Pair}
 use Rattle.road.specs.Reach.{plan_square, space_square, ray_height, length_term, walls_term, distance_term, obstacle_term, screen_between, weather_term, weather_of, energy_share, too_loud, unless_loud}
 
 -- what speed gives: one car's level, and how much more energy than the car's a truck has, of which p takes its part
@@ -41,16 +38,16 @@ steady_term s =
     ⊕ walls_term s.walls s.height s.spacing
 
 abbrev pub silent : Voice
-silent = record { sounds = false; level = term 0 0 }
+silent = None
 
 abbrev pub voice_by : ℕ → Pace → Term → Traffic → Voice
 voice_by lanes pace steady t =
-    cond (eqb t.m 0) silent (record { sounds = true; level = traffic_term lanes t ⊕ speed_by pace t.p ⊕ steady })
+    cond (eqb t.m 0) silent (Some (traffic_term lanes t ⊕ speed_by pace t.p ⊕ steady))
 
 -- what a metre of the source sends out in the period i
 unfoldable pub voice_of : Source → ℕ → Voice
 voice_of s i =
-    cond (eqb (period s i).m 0) silent (record { sounds = true; level = emission_level s i ⊕ walls_term s.walls s.height s.spacing })
+    cond (eqb (period s i).m 0) silent (Some (emission_level s i ⊕ walls_term s.walls s.height s.spacing))
 
 unfoldable pub voices_of : Source → List Voice
 voices_of s = voice_of s 0 ∷ voice_of s 1 ∷ voice_of s 2 ∷ []
@@ -61,17 +58,18 @@ sent_of s = record { voices = voices_of s; whole = whole_of s.course; length = l
 
 -- the share of a voice by a way
 unfoldable pub voiced_part : Voice → Term → Part
-voiced_part v t =
-    cond v.sounds
-    (cond (too_loud (v.level ⊕ t))
-    (record { loud = true; energy = 0 })
-    (record { loud = false; energy = energy_share (v.level ⊕ t) }))
-    (record { loud = false; energy = 0 })
+voiced_part None t = Ok 0
+voiced_part (Some l) t = cond (too_loud (l ⊕ t)) (Err Loud) (Ok (energy_share (l ⊕ t)))
+
+-- the level of a voice; 0 dB where there is none
+abbrev pub level_in : Voice → Term
+level_in None = term 0 0
+level_in (Some l) = l
 
 -- the voices are levels that can be added up
 pub record Modest (v : Voice) : Type 0 where
-  pub up : v.level.up ≤ 100000
-  pub down : v.level.down ≤ 100000
+  pub up : (level_in v).up ≤ 100000
+  pub down : (level_in v).down ≤ 100000
 
 pub record Moderate (vs : List Voice) : Type 0 where
   pub day : Modest (get_or vs 0 silent)
@@ -85,17 +83,20 @@ way_of l q0 q h d i = l ⊕ (distance_term q (root_of q) ⊕ obstacle_term h (ro
 abbrev pub part_in : List Voice → Term → ℕ → ℕ → ℕ → ℕ → ℕ → Part
 part_in vs l q0 q h d i = voiced_part (get_or vs i silent) (way_of l q0 q h d i)
 
+-- three shares, or the first bar among them
 abbrev pub pair_by : Part → Part → Part → Pair
-pair_by day evening night =
-    cond (day.loud || evening.loud || night.loud) (Barred Loud)
-    (Heard (record { day = day.energy; evening = evening.energy; night = night.energy }))
+pair_by (Ok day) (Ok evening) (Ok night) = Ok (record { day = day; evening = evening; night = night })
+pair_by (Ok day) (Ok evening) (Err b) = Err b
+pair_by (Ok day) (Err b) night = Err b
+pair_by (Err b) evening night = Err b
 
 unfoldable pub hear_of : List Voice → Term → ℕ → ℕ → ℕ → ℕ → Pair
 hear_of vs l q0 q h d = pair_by (part_in vs l q0 q h d 0) (part_in vs l q0 q h d 1) (part_in vs l q0 q h d 2)
 
 -- the share of the piece p in the period i, among the walls ws, by the voices
 abbrev pub voiced_share : Voice → Term → ℕ
-voiced_share v t = cond v.sounds (energy_share (v.level ⊕ t)) 0
+voiced_share None t = 0
+voiced_share (Some l) t = energy_share (l ⊕ t)
 
 abbrev pub way_for : List Wall → Receiver → Piece → ℕ → Term
 way_for ws r p i = way_of (length_term p.length) (plan_square p r) (space_square p r) (ray_height r) (taken_off (screen_between ws p r)) i
@@ -121,7 +122,7 @@ abbrev pub earlier : Bar → Bar → Bar
 earlier a b = cond (leb (rank a) (rank b)) a b
 
 unfoldable pub joined : Pair → Pair → Pair
-joined (Barred a) (Barred b) = Barred (earlier a b)
-joined (Barred a) (Heard y) = Barred a
-joined (Heard x) (Barred b) = Barred b
-joined (Heard x) (Heard y) = unless_loud (added_shares x y)
+joined (Err a) (Err b) = Err (earlier a b)
+joined (Err a) (Ok y) = Err a
+joined (Ok x) (Err b) = Err b
+joined (Ok x) (Ok y) = unless_loud (added_shares x y)

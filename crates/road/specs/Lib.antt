@@ -1,3 +1,4 @@
+pub mod Results
 pub mod Term
 pub mod Emission
 pub mod Limits

@@ -1,26 +1,25 @@
 -- What a ledger and a book know of a road and a point: they are heard and bring three shares, or are barred and bring nothing.
 -- `pair_of` of Reach.antt is such a pairing; no definition above this crate looks inside it.
-use Rattle.std.specs.Prelude.{ℕ, ◌≤◌, Bool, true, false, [], ◌∷◌, get_or}
+use Rattle.std.specs.Prelude.{ℕ, ◌≤◌, Bool, true, false, [], ◌∷◌, get_or, Ok, Err}
 use Rattle.road.specs.declared.Source.{Source}
 use Rattle.road.specs.declared.Receiver.{Receiver}
 use Rattle.road.specs.declared.Shares.{Shares}
-use Rattle.road.specs.declared.Pair.{Pair}
-use Rattle.road.specs.declared.Pair.TheVariants.{Heard, Barred}
+use Rattle.road.specs.Results.{Pair}
 
 -- what a road and a point make
 abbrev pub Pairing : Type 0
 Pairing = Source → Receiver → Pair
 
 abbrev pub is_heard : Pair → Bool
-is_heard (Heard h) = true
-is_heard (Barred b) = false
+is_heard (Ok h) = true
+is_heard (Err b) = false
 
 abbrev pub no_shares : Shares
 no_shares = record { day = 0; evening = 0; night = 0 }
 
 abbrev pub brought : Pair → Shares
-brought (Heard h) = h
-brought (Barred b) = no_shares
+brought (Ok h) = h
+brought (Err b) = no_shares
 
 -- the share in the period i: 0 day, 1 evening, 2 night
 abbrev pub share_in : Pair → ℕ → ℕ

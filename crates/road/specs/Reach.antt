@@ -1,6 +1,6 @@
 -- What of a road reaches a point (VBUS sections 3.3, 3.4 and 3.6 to 3.10, METHOD 7 and 9): the share level of a piece, its terms,
 -- the road's pieces, and the pair's answer. Lengths are in cm. `root_of` is the root, down.
-use Rattle.std.specs.Prelude.{ℕ, ◌+◌, ◌-◌, ◌*◌, ◌/◌, min, max, ◌≡◌, ◌≢◌, Bool, false, cond, ◌||◌, get_or, leb, ltb, eqb}
+use Rattle.std.specs.Prelude.{ℕ, ◌+◌, ◌-◌, ◌*◌, ◌/◌, min, max, ◌≡◌, ◌≢◌, Bool, false, cond, ◌||◌, get_or, leb, ltb, eqb, Ok, Err}
 use Rattle.std.proofs.Math.Option.{Option, none, some}
 use mathlib.Core.List.{List, [], ◌∷◌, Permᴰ}
 use Rattle.level.specs.Level.{lv_of, energy_at}
@@ -11,17 +11,15 @@ use Rattle.course.specs.declared.Course.{Course}
 use Rattle.course.specs.declared.Course.TheVariants.{Uncut, Between}
 use Rattle.course.specs.Course.{square, plan_between, pieces_of}
 use Rattle.screen.specs.declared.Wall.{Wall}
-use Rattle.screen.specs.declared.Loss.{Loss}
 use Rattle.screen.specs.Plan.{point}
-use Rattle.screen.specs.Screen.{loss_of, is_twice, taken_off}
+use Rattle.screen.specs.Screen.{Loss, loss_of, is_twice, taken_off}
 use Rattle.road.specs.declared.Term.{Term}
 use Rattle.road.specs.declared.Source.{Source}
 use Rattle.road.specs.declared.Receiver.{Receiver}
 use Rattle.road.specs.declared.Shares.{Shares}
 use Rattle.road.specs.declared.Bar.{Bar}
 use Rattle.road.specs.declared.Bar.TheVariants.{Near, Far, Long, Loud, Walls}
-use Rattle.road.specs.declared.Pair.{Pair}
-use Rattle.road.specs.declared.Pair.TheVariants.{Heard, Barred}
+use Rattle.road.specs.Results.{Pair}
 use Rattle.road.specs.Term.{term, adds, takes, ◌⊕◌, period}
 use Rattle.road.specs.Emission.{emission_level}
 use Rattle.road.specs.Pairs.{most_share}
@@ -151,14 +149,14 @@ any_of f [] = false
 any_of f (p ∷ ps) = f p || any_of f ps
 
 abbrev pub unless_walls : Bool → Pair → Pair
-unless_walls two q = cond two (Barred Walls) q
+unless_walls two q = cond two (Err Walls) q
 
 -- 13: a share is above 90.00 dB
 abbrev pub unless_loud : Shares → Pair
-unless_loud h = cond (ltb most_share h.day || ltb most_share h.evening || ltb most_share h.night) (Barred Loud) (Heard h)
+unless_loud h = cond (ltb most_share h.day || ltb most_share h.evening || ltb most_share h.night) (Err Loud) (Ok h)
 
 abbrev pub unless_barred : Option Bar → Pair → Pair
-unless_barred (some b) q = Barred b
+unless_barred (some b) q = Err b
 unless_barred none q = q
 
 -- two p: more than one wall counts for the piece p
@@ -186,17 +184,17 @@ shares_of ws s p r = record { day = share_of ws s p r 0; evening = share_of ws s
 -- a piece by itself, with bar 13 by its levels: one of them above 90.00 dB
 abbrev pub piece_alone : List Wall → Source → Piece → Receiver → Pair
 piece_alone ws s p r =
-    cond (ltb (space_square p r) nearest) (Barred Near)
-    (cond (ltb farthest (space_square p r)) (Barred Far)
-    (cond (ltb (space_square p r) (4 * square p.length)) (Barred Long)
-    (cond (two_walls ws r p) (Barred Walls)
-    (cond (loud_in ws s p r 0 || loud_in ws s p r 1 || loud_in ws s p r 2) (Barred Loud)
-    (Heard (shares_of ws s p r))))))
+    cond (ltb (space_square p r) nearest) (Err Near)
+    (cond (ltb farthest (space_square p r)) (Err Far)
+    (cond (ltb (space_square p r) (4 * square p.length)) (Err Long)
+    (cond (two_walls ws r p) (Err Walls)
+    (cond (loud_in ws s p r 0 || loud_in ws s p r 1 || loud_in ws s p r 2) (Err Loud)
+    (Ok (shares_of ws s p r))))))
 
 pub record Promises : Type 0 where
   -- a road that is told by its middle and its length is that piece by itself
   pub uncut : (ws : List Wall) (s : Source) (r : Receiver) (p : Piece) → s.course ≡ Uncut p → pair_of ws s r ≡ piece_alone ws s p r
   -- and one that is told by its ends is never barred for its length
-  pub never_long : (ws : List Wall) (s : Source) (r : Receiver) (e : Ends) → s.course ≡ Between e → pair_of ws s r ≢ Barred Long
+  pub never_long : (ws : List Wall) (s : Source) (r : Receiver) (e : Ends) → s.course ≡ Between e → pair_of ws s r ≢ Err Long
   -- in which order the walls stand does not matter
   pub any_order : {l m : List Wall} → Permᴰ l m → pair_of l ≡ pair_of m

@@ -51,12 +51,8 @@ pub struct Pace {
     pub gain: u64,
 }
 
-// What a metre of road sends out in one period: whether there is traffic at all, and its level.
-#[derive(Clone, Copy)]
-pub struct Voice {
-    pub sounds: bool,
-    pub level: Term,
-}
+// What a metre of road sends out in one period: its level, or none where there is no traffic.
+pub type Voice = Option<Term>;
 
 // What a road sends out: its voices by day, in the evening and at night, all of it as one piece, and what the length of that adds.
 #[derive(Clone, Copy)]
@@ -64,13 +60,6 @@ pub struct Sent {
     pub voices: [Voice; 3],
     pub whole: Piece,
     pub length: Term,
-}
-
-// A share before it is told: too loud, or an energy.
-#[derive(Clone, Copy)]
-pub struct Part {
-    pub loud: bool,
-    pub energy: u64,
 }
 
 // The energies of one road at one point, by day, in the evening and at night.
@@ -91,16 +80,11 @@ pub enum Bar {
     Walls,
 }
 
+// A share of one period: an energy, or the bar of loudness.
+pub type Part = Result<u64, Bar>;
+
 // What a road and a point make: three shares, or a bar.
-#[derive(Clone, Copy)]
-pub enum Pair {
-    Heard(Shares),
-    Barred(Bar),
-}
+pub type Pair = Result<Shares, Bar>;
 
 // Whether fields are allowed.
-#[derive(Clone, Copy)]
-pub enum Verdict {
-    Allowed,
-    Refused(Refusal),
-}
+pub type Verdict = Result<(), Refusal>;

@@ -1,19 +1,19 @@
 -- A wall with both ends on one side of the box of p and r does not count. Where a wall counts, the two lines cross at a mean of the wall's
 -- ends that is a mean of p and r, with the same weight in all; and two means of numbers that lie apart are not one. Assumes nothing.
-use mathlib.Core.Path.{◌≡◌, refl, sym, ap, ◌∙◌}
-use mathlib.Core.Bool.{Bool, true, false}
+use mathlib.Core.Path.{◌≡◌, sym, ap, ◌∙◌}
+use mathlib.Core.Bool.{true, false}
 use mathlib.Core.Logic.{⊎_elim}
 use Prim.Native.Nat.{ℕ, suc, ◌+◌, ◌-◌, ◌*◌, ◌≤◌, ◌<◌, min, max}
 use native.Mathlib.Nat.{add-mul}
 use native.Mathlib.Decide.{dec_le}
 use native.Mathlib.Omega.{arith}
 use lib.Dec.{ltb}
-use borrow.Author.Tests.{ltb-true, lt-ltb, le-ltb}
+use Rattle.std.proofs.lemmas.Bool.{ltb-true, lt-ltb, le-ltb, or_cases, not-true, both_ways, false_from_ne_true}
 use Rattle.screen.specs.declared.Point.{Point}
 use Rattle.screen.specs.declared.Wall.{Wall}
 use Rattle.screen.specs.declared.plan.Sides.{Sides}
 use Rattle.screen.specs.Plan.{start, end, around, turn, beside, clear, aside, counts}
-use Rattle.screen.proofs.Bounds.{times, either, not-true}
+use Rattle.screen.proofs.Bounds.{times}
 use Rattle.screen.proofs.Lines.{parted, counts_parted, counts_by_lem, four_turns}
 
 -- ---- two means of one weight are not one below the other
@@ -29,7 +29,7 @@ not_clear s t v u a b p r h e q c =
     ⊎_elim
     (λ l. let d = ltb-true (max a b) (min p r) l in below s t v u a b p r (max a b) h e q (omega arith) (omega arith) (omega arith) (omega arith))
     (λ l. let d = ltb-true (max p r) (min a b) l in below v u s t p r a b (max p r) (omega arith) (sym e) (sym q) (omega arith) (omega arith) (omega arith) (omega arith))
-    (either (ltb (max a b) (min p r)) (ltb (max p r) (min a b)) c)
+    (or_cases (ltb (max a b) (min p r)) (ltb (max p r) (min a b)) c)
 
 -- ---- the crossing: s parts of a and t of b are v parts of p and u of r
 
@@ -102,13 +102,9 @@ record Mixed (t u : Sides) : Type 0 where
 mixed : (t u : Sides) → beside t u ≡ false → Mixed t u
 mixed t u h = record {
   right = λ k l.
-      let b : beside t u ≡ true = rw (lt-ltb t.left t.right k, lt-ltb u.left u.right l) in
-      let e : ◌≡◌ {A = ℕ} 0 1 = cc in
-      omega arith;
+      both_ways (beside t u) h (rw (lt-ltb t.left t.right k, lt-ltb u.left u.right l));
   left = λ k l.
-      let b : beside t u ≡ true = rw (le-ltb t.left t.right (omega arith), lt-ltb t.right t.left k, lt-ltb u.right u.left l) in
-      let e : ◌≡◌ {A = ℕ} 0 1 = cc in
-      omega arith;
+      both_ways (beside t u) h (rw (le-ltb t.left t.right (omega arith), lt-ltb t.right t.left k, lt-ltb u.right u.left l));
 }
 
 -- the first then not to the right and the second not to the left, if the first lies more to the left
@@ -146,11 +142,7 @@ not_both p r w h e =
     ⊎_elim
     (not_clear c.s c.t c.v c.u w.ends.x1 w.ends.x2 p.x r.x c.some c.even c.x)
     (not_clear c.s c.t c.v c.u w.ends.y1 w.ends.y2 p.y r.y c.some c.even c.y)
-    (either (clear w.ends.x1 w.ends.x2 p.x r.x) (clear w.ends.y1 w.ends.y2 p.y r.y) h)
+    (or_cases (clear w.ends.x1 w.ends.x2 p.x r.x) (clear w.ends.y1 w.ends.y2 p.y r.y) h)
 
 pub aside_not : (p r : Point) (w : Wall) → aside p r w ≡ true → counts p r w ≡ false
-aside_not p r w h = go (counts p r w) (not_both p r w h)
-  where
-    go : (b : Bool) → (b ≡ true → ⊥) → b ≡ false
-    go true f = absurd (f refl)
-    go false f = refl
+aside_not p r w h = false_from_ne_true (counts p r w) (not_both p r w h)

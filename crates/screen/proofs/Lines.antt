@@ -8,13 +8,13 @@ use native.Mathlib.Nat.{mul-add, add-mul, mul_comm, mul_assoc, mul_left_comm, mu
 use native.Mathlib.Decide.{dec_le}
 use native.Mathlib.Omega.{arith}
 use lib.Dec.{ltb}
-use borrow.Author.Tests.{ltb-true}
+use Rattle.std.proofs.lemmas.Bool.{ltb-true, and_parts, or_cases}
 use Rattle.screen.specs.declared.Point.{Point}
 use Rattle.screen.specs.declared.Wall.{Wall}
 use Rattle.screen.specs.declared.plan.Sides.{Sides}
 use Rattle.course.specs.Course.{apart, plan_between}
 use Rattle.screen.specs.Plan.{OnPlan, WallOnPlan, start, end, around, turn, area, opposite, beside, counts, fraction_of, On, At, Promises}
-use Rattle.screen.proofs.Bounds.{times, under_root, both, either}
+use Rattle.screen.proofs.Bounds.{times, under_root}
 
 -- ---- sizes
 
@@ -36,13 +36,13 @@ area_most a b c h k l = omega (arith, around_most a b c h k l, around_most b a c
 pub parted : (t u : Sides) → opposite t u ≡ true → ((t.left < t.right) × (u.right < u.left)) ⊎ ((t.right < t.left) × (u.left < u.right))
 parted t u h =
     ⊎_elim
-    (λ e. let p = both (ltb t.left t.right) (ltb u.right u.left) e in inl (ltb-true _ _ p.0, ltb-true _ _ p.1))
-    (λ e. let p = both (ltb t.right t.left) (ltb u.left u.right) e in inr (ltb-true _ _ p.0, ltb-true _ _ p.1))
-    (either (ltb t.left t.right && ltb u.right u.left) (ltb t.right t.left && ltb u.left u.right) h)
+    (λ e. let p = and_parts (ltb t.left t.right) (ltb u.right u.left) e in inl (ltb-true _ _ p.0, ltb-true _ _ p.1))
+    (λ e. let p = and_parts (ltb t.right t.left) (ltb u.left u.right) e in inr (ltb-true _ _ p.0, ltb-true _ _ p.1))
+    (or_cases (ltb t.left t.right && ltb u.right u.left) (ltb t.right t.left && ltb u.left u.right) h)
 
 pub counts_parted : (p r : Point) (w : Wall) → counts p r w ≡ true → opposite (turn (start w) (end w) p) (turn (start w) (end w) r) ≡ true
 unfolding counts
-counts_parted p r w h = (both (opposite (turn (start w) (end w) p) (turn (start w) (end w) r)) (not (beside (turn p r (start w)) (turn p r (end w)))) h).0
+counts_parted p r w h = (and_parts (opposite (turn (start w) (end w) p) (turn (start w) (end w) r)) (not (beside (turn p r (start w)) (turn p r (end w)))) h).0
 
 -- whether a wall counts, by the first test
 pub counts_not : (p r : Point) (w : Wall) → opposite (turn (start w) (end w) p) (turn (start w) (end w) r) ≡ false → counts p r w ≡ false

@@ -1,39 +1,21 @@
--- Walls lent as numbers, and those that count: what is met so far, put before what is still to be looked at. Assumes nothing.
+-- The walls that count: what is met so far, put before what is still to be looked at. Assumes nothing.
 use mathlib.Core.Path.{◌≡◌, refl, sym, ap, ◌∙◌, subst}
+use Rattle.std.specs.Prelude.{Some}
 use mathlib.Core.Bool.{Bool, true, false, cond}
 use mathlib.Core.List.{List, [], ◌∷◌, Permᴰ}
-use Prim.Native.Nat.{ℕ, zero, suc, ◌+◌, ◌-◌, ◌*◌, ◌/◌, ◌≤◌, ◌<◌}
+use Prim.Native.Nat.{ℕ, ◌≤◌}
 use native.Mathlib.Omega.{arith}
-use lib.ListN.{length, drop}
-use lib.Seq.{drop-drop}
+use Rattle.std.specs.List.{fold}
+use Rattle.std.proofs.lemmas.List.Elements.{All-head, All-tail}
 use Rattle.screen.specs.declared.Point.{Point}
 use Rattle.screen.specs.declared.Wall.{Wall}
 use Rattle.screen.specs.declared.Met.{Met}
 use Rattle.screen.specs.declared.Met.TheVariants.{Nothing, One, Several}
-use Rattle.screen.specs.declared.Loss.TheVariants.{Off}
 use Rattle.screen.specs.Plan.{WallOnPlan, counts, fraction_of}
 use Rattle.screen.specs.Section.{Reaches, section_of, screening, screening_of}
-use Rattle.screen.specs.Screen.{between, told, met_of, loss_by, loss_of, one_more, look_at, wall_of, laid, walls_in, walls_of, AllOnPlan, Laid}
+use Rattle.screen.specs.Screen.{between, told, met_of, loss_by, loss_of, one_more, look_at, AllOnPlan}
 use Rattle.screen.proofs.Lines.{fraction_proper}
 use Rattle.screen.proofs.Heights.{section_upright, screening_most}
-
--- ---- walls laid as numbers are those walls again
-
-laid_length : (ws : List Wall) → length (laid ws) ≡ 5 * length ws
-unfolding laid
-laid_length [] = refl
-laid_length (w ∷ ws) = omega (arith, laid_length ws)
-
-laid_in : (ws : List Wall) → walls_in (length ws) (laid ws) ≡ ws
-unfolding laid walls_in
-laid_in [] = refl
-laid_in (w ∷ ws) = ap (λ (l : List Wall). w ∷ l) (laid_in ws)
-
-pub laid_walls : (ws : List Wall) → walls_of (laid ws) ≡ ws
-unfolding walls_of
-laid_walls ws =
-    let e : length (laid ws) / 5 ≡ length ws = omega (arith, laid_length ws) in
-    ap (λ (n : ℕ). walls_in n (laid ws)) e ∙ laid_in ws
 
 -- ---- what is met, and then a list of walls that count
 
@@ -60,43 +42,16 @@ looked p r m w ws = go (counts p r w)
     go true = before_more m w (between p r ws)
     go false = refl
 
--- ---- the loop: what is met, before the walls that are left, is the answer
+-- ---- the loop: all walls looked at, one after the other, tell what is met
 
-pub record Going (p r : Point) (l : List ℕ) (at left : ℕ) (m : Met) : Type 0 where
-  pub room : at + 5 * left ≤ length l
-  pub stand : AllOnPlan (walls_in left (drop at l))
-  pub answer : before m (between p r (walls_in left (drop at l))) ≡ met_of p r (walls_of l)
+looked_from : (p r : Point) (m : Met) (ws : List Wall) → fold (look_at p r) m ws ≡ before m (between p r ws)
+unfolding between
+looked_from p r m [] = sym (before_end m)
+looked_from p r m (w ∷ ws) = looked_from p r (look_at p r m w) ws ∙ looked p r m w ws
 
-pub going_first : (p r : Point) (l : List ℕ) → Laid l → Going p r l 0 (length l / 5) Nothing
-unfolding met_of walls_of Laid
-going_first p r l h = record { room = omega arith; stand = h; answer = refl }
-
-next_in : (l : List ℕ) (at left : ℕ) → 0 < left → walls_in left (drop at l) ≡ wall_of (drop at l) ∷ walls_in (left - 1) (drop (at + 5) l)
-unfolding walls_in
-next_in l at zero h = absurd (omega arith)
-next_in l at (suc n) h =
-    let e : suc n - 1 ≡ n = omega arith in
-    rw (e, drop-drop 5 at l)
-
--- the wall that is looked at next stands
-pub going_at : (p r : Point) (l : List ℕ) (at left : ℕ) (m : Met) → 0 < left → Going p r l at left m → WallOnPlan (wall_of (drop at l))
-going_at p r l at left m h g = (subst AllOnPlan (next_in l at left h) g.stand).0
-
-pub going_next : (p r : Point) (l : List ℕ) (at left : ℕ) (m : Met) → 0 < left → Going p r l at left m
-    → Going p r l (at + 5) (left - 1) (look_at p r m (wall_of (drop at l)))
-going_next p r l at left m h g =
-    record {
-      room = omega (arith, g.room);
-      stand = (subst AllOnPlan (next_in l at left h) g.stand).1;
-      answer =
-          looked p r m (wall_of (drop at l)) (walls_in (left - 1) (drop (at + 5) l))
-          ∙ sym (ap (λ (ws : List Wall). before m (between p r ws)) (next_in l at left h))
-          ∙ g.answer;
-    }
-
-pub going_last : (p r : Point) (l : List ℕ) (at : ℕ) (m : Met) → Going p r l at 0 m → m ≡ met_of p r (walls_of l)
-unfolding between walls_in
-going_last p r l at m g = sym (before_end m) ∙ g.answer
+pub looked_all : (p r : Point) (ws : List Wall) → fold (look_at p r) Nothing ws ≡ met_of p r ws
+unfolding met_of
+looked_all p r ws = looked_from p r Nothing ws
 
 -- ---- the one that counts, where there is one: it counts, and it is one of the walls
 
@@ -107,10 +62,10 @@ pub record Chosen (p r : Point) (w : Wall) : Type 0 where
 first : (p r : Point) (ws : List Wall) (w : Wall) (vs : List Wall) → AllOnPlan ws → between p r ws ≡ w ∷ vs → Chosen p r w
 unfolding between
 first p r [] w vs h e = absurd (let z : ◌≡◌ {A = ℕ} 0 1 = cc in omega arith)
-first p r (v ∷ ws) w vs h e = go (counts p r v) refl e (first p r ws w vs h.1)
+first p r (v ∷ ws) w vs h e = go (counts p r v) refl e (first p r ws w vs (All-tail WallOnPlan v ws h))
   where
     go : (b : Bool) → counts p r v ≡ b → cond b (v ∷ between p r ws) (between p r ws) ≡ w ∷ vs → (between p r ws ≡ w ∷ vs → Chosen p r w) → Chosen p r w
-    go true c e f = let s : v ≡ w = cc in subst (Chosen p r) s (record { counted = c; stands = h.0 })
+    go true c e f = let s : v ≡ w = cc in subst (Chosen p r) s (record { counted = c; stands = All-head WallOnPlan v ws h })
     go false c e f = f e
 
 told_one : (l : List Wall) (w : Wall) → told l ≡ One w → l ≡ w ∷ []
@@ -125,11 +80,11 @@ one_chosen p r ws w h e = first p r ws w [] h (told_one (between p r ws) w e)
 -- ---- what walls take off is less than 60 dB
 
 pub loss_most : (p r : Point) (height q0 q : ℕ) (ws : List Wall) (d : ℕ) → AllOnPlan ws → Reaches height q0 q
-    → loss_of p r height q0 q ws ≡ Off d → d ≤ 6000
+    → loss_of p r height q0 q ws ≡ Some d → d ≤ 6000
 unfolding loss_of screening_of
 loss_most p r height q0 q ws d h e f = go (met_of p r ws) refl f
   where
-    go : (m : Met) → met_of p r ws ≡ m → loss_by p r height q0 q m ≡ Off d → d ≤ 6000
+    go : (m : Met) → met_of p r ws ≡ m → loss_by p r height q0 q m ≡ Some d → d ≤ 6000
     go Nothing k f = let n : 0 ≡ d = cc in omega arith
     go (One w) k f =
         let c = one_chosen p r ws w h k in

@@ -1,12 +1,9 @@
 -- Which walls count between the middle p of a piece and the point r, and what they take off (METHOD 7).
--- The standing walls are lent as numbers, five for each.
-use Rattle.std.specs.Prelude.{ℕ, zero, suc, ◌/◌, Bool, true, false, cond, List, [], ◌∷◌, ◌++◌, length, get_or, drop}
+use Rattle.std.specs.Prelude.{ℕ, Bool, true, false, cond, Option, Some, None, List, [], ◌∷◌, get_or, All}
 use Rattle.screen.specs.declared.Point.{Point}
 use Rattle.screen.specs.declared.Wall.{Wall}
 use Rattle.screen.specs.declared.Met.{Met}
 use Rattle.screen.specs.declared.Met.TheVariants.{Nothing, One, Several}
-use Rattle.screen.specs.declared.Loss.{Loss}
-use Rattle.screen.specs.declared.Loss.TheVariants.{Off, Twice}
 use Rattle.screen.specs.Plan.{WallOnPlan, counts}
 use Rattle.screen.specs.Section.{screening_of}
 
@@ -24,26 +21,29 @@ told (w ∷ v ∷ ws) = Several
 unfoldable pub met_of : Point → Point → List Wall → Met
 met_of p r ws = told (between p r ws)
 
--- ---- what they take off, by the point's height, Q0 and Q
+-- ---- what they take off, by the point's height, Q0 and Q; None where more than one counts
+
+abbrev pub Loss : Type 0
+Loss = Option ℕ
 
 abbrev pub loss_by : Point → Point → ℕ → ℕ → ℕ → Met → Loss
-loss_by p r height q0 q Nothing = Off 0
-loss_by p r height q0 q (One w) = Off (screening_of p r height q0 q w)
-loss_by p r height q0 q Several = Twice
+loss_by p r height q0 q Nothing = Some 0
+loss_by p r height q0 q (One w) = Some (screening_of p r height q0 q w)
+loss_by p r height q0 q Several = None
 
 unfoldable pub loss_of : Point → Point → ℕ → ℕ → ℕ → List Wall → Loss
 loss_of p r height q0 q ws = loss_by p r height q0 q (met_of p r ws)
 
 -- more than one counts
 abbrev pub is_twice : Loss → Bool
-is_twice (Off n) = false
-is_twice Twice = true
+is_twice (Some n) = false
+is_twice None = true
 
 abbrev pub taken_off : Loss → ℕ
-taken_off (Off n) = n
-taken_off Twice = 0
+taken_off (Some n) = n
+taken_off None = 0
 
--- ---- walls as numbers
+-- ---- a wall as numbers, and the wall of numbers
 
 abbrev pub wall_numbers : Wall → List ℕ
 wall_numbers w = w.ends.x1 ∷ w.ends.y1 ∷ w.ends.x2 ∷ w.ends.y2 ∷ w.height ∷ []
@@ -51,26 +51,10 @@ wall_numbers w = w.ends.x1 ∷ w.ends.y1 ∷ w.ends.x2 ∷ w.ends.y2 ∷ w.heigh
 abbrev pub wall_of : List ℕ → Wall
 wall_of v = record { ends = record { x1 = get_or v 0 0; y1 = get_or v 1 0; x2 = get_or v 2 0; y2 = get_or v 3 0 }; height = get_or v 4 0 }
 
--- the numbers of walls, one after the other
-unfoldable pub laid : List Wall → List ℕ
-laid [] = []
-laid (w ∷ ws) = wall_numbers w ++ laid ws
+-- ---- walls that the code works with
 
--- and the walls of numbers
-unfoldable pub walls_in : ℕ → List ℕ → List Wall
-walls_in zero l = []
-walls_in (suc n) l = wall_of l ∷ walls_in n (drop 5 l)
-
-unfoldable pub walls_of : List ℕ → List Wall
-walls_of l = walls_in (length l / 5) l
-
--- walls that the code works with
 abbrev pub AllOnPlan : List Wall → Type 0
-AllOnPlan [] = Unit {0}
-AllOnPlan (w ∷ ws) = WallOnPlan w × AllOnPlan ws
-
-unfoldable pub Laid : List ℕ → Type 0
-Laid l = AllOnPlan (walls_of l)
+AllOnPlan ws = All WallOnPlan ws
 
 -- ---- one wall after the other, as the code goes
 

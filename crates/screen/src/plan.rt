@@ -1,8 +1,7 @@
 // The plan: on which side of a line a point lies, whether a wall counts, and at which part of the plan line it stands (specs/Plan.antt).
 // All in whole numbers: products of two coordinates, their sums, and which sum is the larger.
-ghost use Rattle.std.specs.Prelude.{◌≡◌, ◌*◌, ◌^◌, ◌≤◌, ◌<◌, min, max};
-ghost use Rattle.course.specs.Course.{apart};
-ghost use Rattle.screen.specs.Plan.{OnPlan, WallOnPlan, around, turn, area, opposite, beside, clear, aside, counts, fraction_of};
+ghost use Rattle.std.specs.Prelude.{◌≡◌, ◌*◌, ◌^◌, ◌≤◌, ◌<◌};
+ghost use Rattle.screen.specs.Plan.{OnPlan, WallOnPlan, start, end, around, turn, area, opposite, beside, clear, aside, counts, fraction_of};
 
 use crate::{Point, Wall};
 
@@ -21,22 +20,12 @@ pub struct Ratio {
     pub den: u64,
 }
 
-// How far two numbers are apart.
-pub fn apart(a: u64, b: u64) -> u64
-    ensures { result ≡ apart a b }
-{
-    if a < b {
-        return b - a;
-    }
-    a - b
-}
-
 // A coordinate times a coordinate.
 fn product(a: u32, b: u32) -> u64
     requires { (a < 2 ^ 24) × (b < 2 ^ 24) }
     ensures { (result ≡ a * b) × (result ≤ 2 ^ 48) }
 {
-    a as u64 * b as u64
+    u64::from(a) * u64::from(b)
 }
 
 // Once round a triangle: what the shoelace formula adds.
@@ -61,10 +50,11 @@ fn turn(a: Point, b: Point, c: Point) -> Sides
 fn area(t: Sides) -> u64
     ensures { result ≡ area t }
 {
-    apart(t.left, t.right)
+    t.left.abs_diff(t.right)
 }
 
 // Strictly on opposite sides.
+// By hand, here and in `beside`: by `cmp` there would be a third outcome to leave out, that a point is on the line.
 fn opposite(t: Sides, u: Sides) -> bool
     ensures { result ≡ opposite t u }
 {
@@ -78,32 +68,12 @@ fn beside(t: Sides, u: Sides) -> bool
     ((t.left < t.right) & (u.left < u.right)) | ((t.right < t.left) & (u.right < u.left))
 }
 
-// The smaller of two coordinates.
-fn lesser(a: u32, b: u32) -> u32
-    ensures { result ≡ min a b }
-{
-    if a < b {
-        return a;
-    }
-    b
-}
-
-// The larger of two coordinates.
-fn greater(a: u32, b: u32) -> u32
-    ensures { result ≡ max a b }
-{
-    if a < b {
-        return b;
-    }
-    a
-}
-
 // Whether a and b lie both below, or both above, p and r.
 fn clear(a: u32, b: u32, p: u32, r: u32) -> bool
     ensures { result ≡ clear a b p r }
 {
-    let below = greater(a, b) < lesser(p, r);
-    let above = greater(p, r) < lesser(a, b);
+    let below = a.max(b) < p.min(r);
+    let above = p.max(r) < a.min(b);
     below | above
 }
 
@@ -115,14 +85,22 @@ fn aside(p: Point, r: Point, w: Wall) -> bool
     clear(e.x1, e.x2, p.x, r.x) | clear(e.y1, e.y2, p.y, r.y)
 }
 
+// The two ends of a wall.
+fn ends(w: Wall) -> (Point, Point)
+    ensures { result ≡ (start w, end w) }
+{
+    let e = w.ends;
+    let a = Point { x: e.x1, y: e.y1 };
+    let b = Point { x: e.x2, y: e.y2 };
+    (a, b)
+}
+
 // Whether a wall counts between p and r, by the turns: most walls leave both on one side, and no more is asked of them.
 fn crosses(p: Point, r: Point, w: Wall) -> bool
     requires { OnPlan p × OnPlan r × WallOnPlan w }
     ensures { result ≡ counts p r w }
 {
-    let e = w.ends;
-    let a = Point { x: e.x1, y: e.y1 };
-    let b = Point { x: e.x2, y: e.y2 };
+    let (a, b) = ends(w);
     if !opposite(turn(a, b, p), turn(a, b, r)) {
         return false;
     }
@@ -145,9 +123,7 @@ pub fn fraction(p: Point, r: Point, w: Wall) -> Ratio
     requires { OnPlan p × OnPlan r × WallOnPlan w }
     ensures { result ≡ fraction_of p r w }
 {
-    let e = w.ends;
-    let a = Point { x: e.x1, y: e.y1 };
-    let b = Point { x: e.x2, y: e.y2 };
+    let (a, b) = ends(w);
     let num = area(turn(a, b, p));
     let rest = area(turn(a, b, r));
     let den = num + rest;

@@ -1,12 +1,10 @@
 // The upright section through piece, wall and point, in mm: what a wall that counts takes off (VBUS equations 15 to 19).
 // Each equation is a definition of specs/Section.antt under the paper's name.
 ghost use Rattle.std.specs.Prelude.{◌≡◌, ◌+◌, ◌≤◌, ◌<◌};
-ghost use Rattle.level.specs.Table.{table};
 ghost use Rattle.root.specs.Root.{root_of};
 ghost use Rattle.course.specs.Course.{square};
 ghost use Rattle.screen.specs.Section.{Reaches, Upright, section_of, h_d, gamma, lift, z, Dz, screening};
 
-use crate::plan;
 use crate::plan::Ratio;
 
 // How high above the road the source is, in mm.
@@ -35,13 +33,11 @@ pub fn cut(q0: u64, q: u64, f: Ratio, height: u16, wall: u16) -> Section
     requires { Reaches height q0 q × (f.num < f.den) × (f.num ≤ 6710886400000) × (wall ≤ 2000) }
     ensures { result ≡ section_of q0 q f height wall }
 {
-    let lines = root::last_lines(100 * q0, 100 * q);
-    let s0 = lines.near.root;
-    let s = lines.far.root;
+    let (s0, s) = root::roots(100 * q0, 100 * q);
     let a = f.num * s0 / f.den;
     let b = s0 - a;
-    let h = 10 * height as u64;
-    let edge = 10 * wall as u64;
+    let h = 10 * u64::from(height);
+    let edge = 10 * u64::from(wall);
     Section {
         s0,
         s,
@@ -65,10 +61,7 @@ fn gamma(s: u64) -> u64
     requires { s ≤ 2000000 }
     ensures { result ≡ gamma s }
 {
-    if s <= 125000 {
-        return 1000000;
-    }
-    8 * s
+    (8 * s).max(1000000)
 }
 
 // Equation 18: how much higher the bent ray is at the wall.
@@ -98,12 +91,8 @@ fn both(x: u64, y: u64) -> u64
     requires { (x ≤ square 4000000) × (y ≤ square 4000000) }
     ensures { result ≡ root_of x + root_of y }
 {
-    if x <= y {
-        let lines = root::last_lines(x, y);
-        return lines.near.root + lines.far.root;
-    }
-    let lines = root::last_lines(y, x);
-    lines.far.root + lines.near.root
+    let (a, b) = root::roots(x, y);
+    a + b
 }
 
 // Equation 16: the two ways.
@@ -111,10 +100,10 @@ fn ways(c: Section, through: u64) -> Detour
     requires { Upright c × (through ≡ h_d c + lift c) }
     ensures { result ≡ z c }
 {
-    let a = square_of(c.a, plan::apart(c.edge, SOURCE));
-    let b = square_of(c.b, plan::apart(c.edge, c.h));
-    let a_lifted = square_of(c.a, plan::apart(through, SOURCE));
-    let b_lifted = square_of(c.b, plan::apart(through, c.h));
+    let a = square_of(c.a, c.edge.abs_diff(SOURCE));
+    let b = square_of(c.b, c.edge.abs_diff(c.h));
+    let a_lifted = square_of(c.a, through.abs_diff(SOURCE));
+    let b_lifted = square_of(c.b, through.abs_diff(c.h));
     let over = both(a, b);
     let lifted = both(a_lifted, b_lifted);
     Detour {
@@ -124,24 +113,24 @@ fn ways(c: Section, through: u64) -> Detour
 }
 
 // Equation 15: what a detour takes off.
-fn taken_off(steps: &[u32; 1000], d: Detour) -> u32
-    requires { (steps.now ≡ table) × (d.over ≤ 10000000) × (d.through ≤ 20000000) }
+fn taken_off(d: Detour) -> u32
+    requires { (d.over ≤ 10000000) × (d.through ≤ 20000000) }
     ensures { result ≡ Dz d }
 {
     if d.through <= d.over + 33 {
-        return level::lv(steps, 3000 + 60 * d.over - 60 * d.through) - 3000;
+        return level::lv(3000 + 60 * d.over - 60 * d.through) - 3000;
     }
     0
 }
 
 // What the wall takes off.
-pub fn screening(steps: &[u32; 1000], c: Section) -> u32
-    requires { (steps.now ≡ table) × Upright c }
+pub fn screening(c: Section) -> u32
+    requires { Upright c }
     ensures { result ≡ screening c }
 {
     let ray = ray(c);
     if c.edge < ray {
         return 0;
     }
-    taken_off(steps, ways(c, ray + lift(c)))
+    taken_off(ways(c, ray + lift(c)))
 }

@@ -1,5 +1,6 @@
 -- A record by the daily figure comes to what the record of its counts comes to.
 -- Assumes nothing.
+use Rattle.std.specs.Prelude.{Ok, Err}
 use Prim.Native.Nat.{ℕ, suc, ◌+◌, ◌^◌, ◌≤◌, ◌<◌}
 use mathlib.Core.Path.{◌≡◌, refl, sym, ap, ◌∙◌}
 use mathlib.Core.List.{List, [], ◌∷◌, ◌++◌, append-nil}
@@ -13,8 +14,7 @@ use Rattle.layout.proofs.Laws.{fields_within}
 use Rattle.course.specs.declared.Piece.{Piece}
 use Rattle.course.specs.declared.Course.TheVariants.{Uncut}
 use Rattle.road.specs.declared.Source.{Source}
-use Rattle.road.specs.declared.Verdict.{Verdict}
-use Rattle.road.specs.declared.Verdict.TheVariants as verdict
+use Rattle.road.specs.Results.{Verdict}
 use Rattle.road.specs.Fields.{piece_table, road_table, traffic_table, source_table, piece_of, values_by, bits_by}
 use Rattle.road.specs.Judge.{source_fields, slot_verdict}
 use Rattle.road.proofs.Rows.{upto, all_of, upto_take, within_upto}
@@ -40,8 +40,8 @@ come r n store = deed r.told n (answer_told r.told r.source store)
 -- of the two calls, by one verdict
 same_call : (v : Verdict) (slot : ℕ) (p : Piece) (d : Daily) (q : Source) (m n : ℕ) (store : List ℕ)
     → Alike (come (judged v (request.PlaceSource slot (counts.ByDay p d)) q) m store) (come (judged v (request.PlaceSource slot counts.ByPeriod) q) n store)
-same_call verdict.Allowed slot p d q m n store = (refl, refl)
-same_call (verdict.Refused why) slot p d q m n store = (refl, refl)
+same_call (Ok tt) slot p d q m n store = (refl, refl)
+same_call (Err why) slot p d q m n store = (refl, refl)
 
 -- of a reading that is such a call
 done_by : (job store : List ℕ) (r : Reading) → read_of job ≡ r → done_to job store ≡ come r (extent_of job) store

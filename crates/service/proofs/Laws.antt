@@ -1,4 +1,5 @@
 -- What a reading comes to on a store, with damage and without; and that its call is one that code can make. Assumes nothing.
+use Rattle.std.specs.Prelude.{Ok, Err}
 use mathlib.Core.Path.{◌≡◌, refl, sym, ap, ap₂, ◌∙◌}
 use mathlib.Core.Bool.{Bool, true, false, cond}
 use mathlib.Core.List.{List}
@@ -12,18 +13,17 @@ use Rattle.answer.specs.declared.Refusal.TheVariants.{Damaged}
 use Rattle.road.specs.declared.Source.{Source}
 use Rattle.request.specs.declared.Request.{Request}
 use Rattle.request.specs.declared.Request.TheVariants as request
-use Rattle.request.specs.declared.Told.{Told}
-use Rattle.request.specs.declared.Told.TheVariants as told
+use Rattle.road.specs.Results.{Verdict}
+use Rattle.request.specs.Record.{Told}
 use Rattle.request.specs.Record.{length_of, read_of, extent_of}
 use Rattle.request.proofs.Trips.{three_periods}
 use Rattle.store.specs.Store.{Book, damaged}
-use Rattle.calls.specs.declared.Answer.{Answer}
-use Rattle.calls.specs.declared.Answer.TheVariants as answer
+use Rattle.calls.specs.Calls.{Answer}
 use Rattle.calls.specs.Calls.{refuse, place_source, withdraw_source, place_receiver, withdraw_receiver, place_wall, withdraw_wall, ask_receiver}
 use Rattle.history.specs.History.{RealCall, perform}
-use Rattle.calls.proofs.Entries.{on_damaged, on_sound}
+use Rattle.calls.proofs.Entries.{on_damaged, on_sound, whole}
 use Rattle.history.proofs.Theorems.{of_this_book}
-use Rattle.service.specs.declared.Outcome.{Outcome}
+use Rattle.service.specs.Service.{Outcome}
 use Rattle.service.specs.declared.Deed.{Deed}
 use Rattle.service.specs.Service.{call_of, slot_in, outcome_of, answer_told, deed, done_to}
 
@@ -42,27 +42,30 @@ at o n = record { outcome = o; extent = n }
 
 module _ (job store : List ℕ) where
   -- where the store is damaged
-  answer_damaged : (t : Told) (s : Source) → damaged store ≡ true → (answer.Refused Damaged, store) ≡ answer_told t s store
-  answer_damaged (told.Refused why) s d = on_damaged (λ (b : Book). refuse why) store d
-  answer_damaged (told.Request (request.PlaceReceiver j r)) s d = on_damaged (place_receiver j r) store d
-  answer_damaged (told.Request (request.WithdrawReceiver j)) s d = on_damaged (withdraw_receiver j) store d
-  answer_damaged (told.Request (request.PlaceSource i counts)) s d = on_damaged (place_source i s) store d
-  answer_damaged (told.Request (request.WithdrawSource i)) s d = on_damaged (withdraw_source i) store d
-  answer_damaged (told.Request (request.Ask j)) s d = on_damaged (ask_receiver j) store d
-  answer_damaged (told.Request (request.PlaceWall k w)) s d = on_damaged (place_wall k w) store d
-  answer_damaged (told.Request (request.WithdrawWall k)) s d = on_damaged (withdraw_wall k) store d
+  refused_first : damaged store ≡ true → ◌≡◌ {A = Verdict} (Err Damaged) (whole (damaged store))
+  refused_first d = sym (ap whole d)
 
-  pub on_damage : damaged store ≡ true → deed (told.Refused Damaged) (extent_of job) (answer.Refused Damaged, store) ≡ done_to job store
+  answer_damaged : (t : Told) (s : Source) → damaged store ≡ true → (Err Damaged, store) ≡ answer_told t s store
+  answer_damaged (Err why) s d = on_damaged (λ (b : Book). refuse why) store Damaged (refused_first d)
+  answer_damaged (Ok (request.PlaceReceiver j r)) s d = on_damaged (place_receiver j r) store Damaged (refused_first d)
+  answer_damaged (Ok (request.WithdrawReceiver j)) s d = on_damaged (withdraw_receiver j) store Damaged (refused_first d)
+  answer_damaged (Ok (request.PlaceSource i counts)) s d = on_damaged (place_source i s) store Damaged (refused_first d)
+  answer_damaged (Ok (request.WithdrawSource i)) s d = on_damaged (withdraw_source i) store Damaged (refused_first d)
+  answer_damaged (Ok (request.Ask j)) s d = on_damaged (ask_receiver j) store Damaged (refused_first d)
+  answer_damaged (Ok (request.PlaceWall k w)) s d = on_damaged (place_wall k w) store Damaged (refused_first d)
+  answer_damaged (Ok (request.WithdrawWall k)) s d = on_damaged (withdraw_wall k) store Damaged (refused_first d)
+
+  pub on_damage : damaged store ≡ true → deed (Err Damaged) (extent_of job) (Err Damaged, store) ≡ done_to job store
   unfolding done_to
   on_damage d = ap (deed (read_of job).told (extent_of job)) (answer_damaged (read_of job).told (read_of job).source d)
 
   -- where a call is read
-  pub called : (r : Request) (s : Source) (a : Answer) (u : List ℕ) (x : Outcome) (n : ℕ) → (read_of job).told ≡ told.Request r → (read_of job).source ≡ s
+  pub called : (r : Request) (s : Source) (a : Answer) (u : List ℕ) (x : Outcome) (n : ℕ) → (read_of job).told ≡ Ok r → (read_of job).source ≡ s
       → (a, u) ≡ perform (call_of r s) store → x ≡ outcome_of (slot_in r) a → n ≡ extent_of job → (record { outcome = x; extent = n }, u) ≡ done_to job store
   unfolding done_to
   called r s a u x n e f q y z =
       ap₂ (λ (o : Outcome) (m : ℕ). (at o m, u)) y z
-      ∙ ap (deed (told.Request r) (extent_of job)) (q ∙ ap (λ (v : Source). answer_told (told.Request r) v store) (sym f))
+      ∙ ap (deed (Ok r) (extent_of job)) (q ∙ ap (λ (v : Source). answer_told (Ok r) v store) (sym f))
       ∙ ap (λ (t : Told). deed t (extent_of job) (answer_told t (read_of job).source store)) (sym e)
 
   -- and the store stays as it should
@@ -72,11 +75,11 @@ module _ (job store : List ℕ) where
       ap damaged q ∙ of_this_book.stays_sound (call_of r s) (real r s (ap (λ (x : Source). length x.traffic) (sym f) ∙ three_periods job)) store d
 
   -- where a refusal is read, and the store is sound
-  pub unread : (why : Refusal) → (read_of job).told ≡ told.Refused why → damaged store ≡ false
-      → deed (told.Refused why) (extent_of job) (answer.Refused why, store) ≡ done_to job store
+  pub unread : (why : Refusal) → (read_of job).told ≡ Err why → damaged store ≡ false
+      → deed (Err why) (extent_of job) (Err why, store) ≡ done_to job store
   unfolding done_to
   unread why e d =
-      ap (deed (told.Refused why) (extent_of job)) (on_sound (λ (b : Book). refuse why) store d)
+      ap (deed (Err why) (extent_of job)) (on_sound (λ (b : Book). refuse why) store d)
       ∙ ap (λ (t : Told). deed t (extent_of job) (answer_told t (read_of job).source store)) (sym e)
 
 -- the next record begins within the job, or where it ends

@@ -1,5 +1,6 @@
 -- What is promised of outcomes: number and place are the answer's, a place is below the slots of sources, and a job stops just after 2 and 3.
 -- Assumes nothing.
+use Rattle.std.specs.Prelude.{Ok, Err}
 use Prim.Native.Nat.{ℕ, ◌<◌}
 use mathlib.Core.Path.{◌≡◌, refl, sym, subst}
 use mathlib.Core.Bool.{Bool, true, false, cond}
@@ -10,12 +11,11 @@ use Rattle.answer.specs.declared.Refusal.TheVariants.{Damaged}
 use Rattle.answer.specs.Table.{place_of}
 use Rattle.road.specs.declared.Source.{Source}
 use Rattle.store.specs.Store.{source_count, Book, damaged}
-use Rattle.request.specs.declared.Told.{Told}
-use Rattle.request.specs.declared.Told.TheVariants as told
+use Rattle.request.specs.Record.{Told}
 use Rattle.request.specs.Record.{read_of, place_told}
 use Rattle.request.proofs.Numbers.{read_low}
-use Rattle.calls.specs.declared.Answer.{Answer}
-use Rattle.calls.specs.declared.Answer.TheVariants as answer
+use Rattle.calls.specs.Calls.{Answer}
+use Rattle.calls.specs.declared.Reply.TheVariants as answer
 use Rattle.calls.specs.Calls.{refuse, on_store}
 use Rattle.calls.specs.Calls as calls
 use Rattle.history.proofs.Theorems.{of_this_book}
@@ -23,21 +23,21 @@ use Rattle.service.specs.Service.{call_of, slot_told, outcome_of, answer_told, d
 use Rattle.service.proofs.Stops.{same_number, stops}
 
 same_place : (slot : ℕ) (a : Answer) → outcome_place (outcome_of slot a) ≡ calls.place_in a
-same_place slot answer.Done = refl
-same_place slot (answer.Levels den night) = refl
-same_place slot (answer.Refused why) = refl
+same_place slot (Ok answer.Done) = refl
+same_place slot (Ok (answer.Levels den night)) = refl
+same_place slot (Err why) = refl
 
 refused_place : (why : Refusal) (s : List ℕ) → place_of why < source_count → calls.place_in (on_store (λ (b : Book). refuse why) s).0 < source_count
 unfolding on_store
 refused_place why s h = go (damaged s)
   where
-    go : (t : Bool) → calls.place_in (cond {A = Answer × List ℕ} t (answer.Refused Damaged, s) (answer.Refused why, s)).0 < source_count
+    go : (t : Bool) → calls.place_in (cond {A = Answer × List ℕ} t (Err Damaged, s) (Err why, s)).0 < source_count
     go true = omega arith
     go false = h
 
 told_place : (t : Told) (x : Source) (s : List ℕ) → place_told t < 32 → calls.place_in (answer_told t x s).0 < source_count
-told_place (told.Request c) x s h = of_this_book.places (call_of c x) s
-told_place (told.Refused why) x s h = refused_place why s (omega (arith, h))
+told_place (Ok c) x s h = of_this_book.places (call_of c x) s
+told_place (Err why) x s h = refused_place why s (omega (arith, h))
 
 places : (job store : List ℕ) → outcome_place (done_to job store).0.outcome < source_count
 unfolding done_to

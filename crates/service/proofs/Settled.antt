@@ -4,5 +4,5 @@ use Rattle.answer.specs.Settled.{SettlesBoth}
 use Rattle.answer.proofs.Settled.{settled_too}
 use Rattle.service.proofs
 
-serve_settled : SettlesBoth (λ l a e. e.1.0.now) proofs.serve.Reads.Post
+serve_settled : SettlesBoth (λ l a e. e.0.now) proofs.serve.Reads.Post
 serve_settled l a = settled_too _ _ _

@@ -1,5 +1,6 @@
 -- A job stops just after refusals 2 and 3: there the next record is 0 bytes on, and the book and the judge of fields give other numbers.
 -- Assumes nothing.
+use Rattle.std.specs.Prelude.{Ok, Err}
 use Prim.Native.Nat.{ℕ, ◌<◌}
 use mathlib.Core.Path.{◌≡◌, refl, sym, ap, subst, ◌∙◌}
 use mathlib.Core.Logic.{◌⊎◌, ◌↔◌, inl, inr, ⊎_elim}
@@ -13,20 +14,18 @@ use Rattle.answer.specs.declared.Refusal.{Refusal}
 use Rattle.answer.specs.declared.Refusal.TheVariants.{CutShort, UnknownKind, Leftover}
 use Rattle.answer.specs.Table.{number_of}
 use Rattle.road.specs.declared.Source.{Source}
-use Rattle.road.specs.declared.Verdict.{Verdict}
-use Rattle.road.specs.declared.Verdict.TheVariants as verdict
+use Rattle.road.specs.Results.{Verdict}
 use Rattle.road.proofs.Judged.{ByFields}
 use Rattle.store.specs.Store.{Book, damaged}
 use Rattle.request.specs.declared.Request.{Request}
-use Rattle.request.specs.declared.Told.{Told}
-use Rattle.request.specs.declared.Told.TheVariants as told
+use Rattle.request.specs.Record.{Told}
 use Rattle.request.specs.declared.Reading.{Reading}
 use Rattle.request.specs.Kinds.{call_in, source_in, verdict_of}
 use Rattle.request.specs.Record.{kind_of, length_of, values_of, cut_short, unknown_kind, leftover_set, judged, read_of, extent_of}
 use Rattle.request.proofs.Laws.{extent_whole, extent_none, uncut, read_cut, read_unknown, read_leftover, read_heard}
 use Rattle.request.proofs.Numbers.{verdict_by}
-use Rattle.calls.specs.declared.Answer.{Answer}
-use Rattle.calls.specs.declared.Answer.TheVariants as answer
+use Rattle.calls.specs.Calls.{Answer}
+use Rattle.calls.specs.declared.Reply.TheVariants as answer
 use Rattle.calls.specs.Calls.{refuse}
 use Rattle.calls.specs.Calls as calls
 use Rattle.calls.proofs.Entries.{on_sound}
@@ -36,9 +35,9 @@ use Rattle.service.specs.Service.{call_of, slot_in, slot_told, outcome_of, answe
 use Rattle.service.proofs.Laws.{goes_by}
 
 pub same_number : (slot : ℕ) (a : Answer) → outcome_number (outcome_of slot a) ≡ calls.number_in a
-same_number slot answer.Done = refl
-same_number slot (answer.Levels den night) = refl
-same_number slot (answer.Refused why) = refl
+same_number slot (Ok answer.Done) = refl
+same_number slot (Ok (answer.Levels den night)) = refl
+same_number slot (Err why) = refl
 
 -- a number that is neither 2 nor 3
 abbrev Apart : ℕ → Type 0
@@ -59,14 +58,14 @@ module _ (s store : List ℕ) (d : damaged store ≡ false) where
   number = outcome_number (done_to s store).0.outcome
 
   -- where a refusal is read, the number is its
-  refused_number : (why : Refusal) → (read_of s).told ≡ told.Refused why → number ≡ number_of why
+  refused_number : (why : Refusal) → (read_of s).told ≡ Err why → number ≡ number_of why
   unfolding number done_to
   refused_number why e =
       ap (λ (t : Told). outcome_number (outcome_of (slot_told t) (answer_told t (read_of s).source store).0)) e
       ∙ ap (λ (o : Answer × List ℕ). outcome_number (outcome_of 0 o.0)) (sym (on_sound (λ (b : Book). refuse why) store d))
 
   -- where a call is read, the number is the book's
-  called_number : (c : Request) → (read_of s).told ≡ told.Request c → Apart number
+  called_number : (c : Request) → (read_of s).told ≡ Ok c → Apart number
   unfolding number done_to
   called_number c e =
       subst Apart
@@ -77,8 +76,8 @@ module _ (s store : List ℕ) (d : damaged store ≡ false) where
 
   -- by what the judge of its fields says
   judged_number : (v : Verdict) (c : Request) (q : Source) → ByFields v → judged v c q ≡ read_of s → Apart number
-  judged_number verdict.Allowed c q b e = called_number c (sym (ap (λ (r : Reading). r.told) e))
-  judged_number (verdict.Refused why) c q b e = inr (omega (arith, b.0, refused_number why (sym (ap (λ (r : Reading). r.told) e))))
+  judged_number (Ok tt) c q b e = called_number c (sym (ap (λ (r : Reading). r.told) e))
+  judged_number (Err why) c q b e = inr (omega (arith, b.0, refused_number why (sym (ap (λ (r : Reading). r.told) e))))
 
   module _ (h : 0 < length s) where
     stops_so : extent_of s ≡ 0 → Stopping number

@@ -1,31 +1,34 @@
 -- One record at the front of a job, read and done to a store: what comes of it, for any bytes and any store
 -- (METHOD 9: the lowest number that applies is given, so damage comes before what the reader refuses).
-use Rattle.std.specs.Prelude.{ℕ, ◌<◌, ◌≡◌, ◌⊎◌, ◌↔◌, false, List, length}
+use Rattle.std.specs.Prelude.{ℕ, ◌<◌, ◌≡◌, ◌⊎◌, ◌↔◌, false, List, length, Ok, Err, Result}
 use Rattle.std.proofs.Math.Option.{Option, none, some}
 use Rattle.answer.specs.declared.Refusal.{Refusal}
 use Rattle.answer.specs.Table.{number_by, place_by}
 use Rattle.road.specs.declared.Source.{Source}
 use Rattle.request.specs.declared.Request.{Request}
 use Rattle.request.specs.declared.Request.TheVariants as request
-use Rattle.request.specs.declared.Told.{Told}
-use Rattle.request.specs.declared.Told.TheVariants as told
+use Rattle.request.specs.Record.{Told}
 use Rattle.request.specs.Record.{read_of, extent_of}
 use Rattle.store.specs.Store.{source_count, damaged}
-use Rattle.calls.specs.declared.Answer.{Answer}
-use Rattle.calls.specs.declared.Answer.TheVariants as answer
+use Rattle.calls.specs.Calls.{Answer}
+use Rattle.calls.specs.declared.Reply.TheVariants as answer
 use Rattle.calls.specs.Calls.{refuse, on_store}
 use Rattle.calls.specs.Calls as calls
 use Rattle.history.specs.History.{Call, PlaceSource, WithdrawSource, PlaceReceiver, WithdrawReceiver, PlaceWall, WithdrawWall, Ask, perform}
-use Rattle.service.specs.declared.Outcome.{Outcome}
-use Rattle.service.specs.declared.Outcome.TheVariants.{Done, Levels, Refused}
+use Rattle.service.specs.declared.Report.{Report}
+use Rattle.service.specs.declared.Report.TheVariants.{Done, Levels}
 use Rattle.service.specs.declared.Deed.{Deed}
+
+-- what comes of a record: done or the two indices, or a refusal
+abbrev pub Outcome : Type 0
+Outcome = Result Report Refusal
 
 -- ---- number and place of what comes of a record: by its refusal, if it is one
 
 abbrev pub outcome_refusal : Outcome → Option Refusal
-outcome_refusal Done = none
-outcome_refusal (Levels slot den night) = none
-outcome_refusal (Refused why) = some why
+outcome_refusal (Ok Done) = none
+outcome_refusal (Ok (Levels slot den night)) = none
+outcome_refusal (Err why) = some why
 
 abbrev pub outcome_number : Outcome → ℕ
 outcome_number o = number_by (outcome_refusal o)
@@ -57,18 +60,18 @@ slot_in (request.WithdrawWall slot) = slot
 
 -- an answer of the book with the slot that was asked
 abbrev pub outcome_of : ℕ → Answer → Outcome
-outcome_of slot answer.Done = Done
-outcome_of slot (answer.Levels den night) = Levels slot den night
-outcome_of slot (answer.Refused why) = Refused why
+outcome_of slot (Ok answer.Done) = Ok Done
+outcome_of slot (Ok (answer.Levels den night)) = Ok (Levels slot den night)
+outcome_of slot (Err why) = Err why
 
 -- what a reading comes to on a store: its call is done, or its refusal stands
 abbrev pub slot_told : Told → ℕ
-slot_told (told.Request c) = slot_in c
-slot_told (told.Refused why) = 0
+slot_told (Ok c) = slot_in c
+slot_told (Err why) = 0
 
 abbrev pub answer_told : Told → Source → List ℕ → Answer × List ℕ
-answer_told (told.Request c) source store = perform (call_of c source) store
-answer_told (told.Refused why) source store = on_store (λ book. refuse why) store
+answer_told (Ok c) source store = perform (call_of c source) store
+answer_told (Err why) source store = on_store (λ book. refuse why) store
 
 abbrev pub deed : Told → ℕ → Answer × List ℕ → Deed × List ℕ
 deed t n o = (record { outcome = outcome_of (slot_told t) o.0; extent = n }, o.1)

@@ -1,25 +1,25 @@
 -- Bytes and book say the same: an undamaged store is the bytes of its book, a sound book is the book of its bytes, and a write of a slot is
 -- a change of one entry. Assumes nothing.
-use Prim.Native.Nat.{ℕ, zero, suc, ◌+◌, ◌*◌, ◌≤◌, ◌<◌}
+use Rattle.std.specs.Prelude.{Some, None, Option as RustOption}
+use Prim.Native.Nat.{ℕ, zero, suc, ◌+◌, ◌*◌, ◌<◌}
 use mathlib.Core.Logic.{◌≢◌}
 use mathlib.Core.Path.{◌≡◌, refl, sym, ap, ap₂, ◌∙◌, subst}
-use mathlib.Core.Bool.{Bool, true, false, cond, not, ◌||◌}
+use mathlib.Core.Bool.{Bool, true, false, not, ◌||◌}
 use mathlib.Core.List.{List, [], ◌∷◌, ◌++◌, append-nil, append_assoc}
 use mathlib.Core.Option.{Option, none, some}
-use native.Mathlib.Numerals.{add-one}
 use native.Mathlib.Omega.{arith}
 use borrow.Author.Tests.{eqb-true, eq-eqb, ne_eqb, not-false}
 use lib.Dec.{eqb}
 use lib.ListN.{length, get_or, drop, set, replicate, length-append, length-set, length-replicate, drop_of_length-le, replicate-append-replicate}
-use lib.Seq.{drop_at, drop-cons}
+use lib.Seq.{drop_at}
 use Rattle.layout.specs.Layout.{Bytes}
 use Rattle.layout.specs.Over.{over}
 use Rattle.layout.proofs.Numbers.{bytes_append}
 use Rattle.screen.specs.declared.Wall.{Wall}
 use Rattle.road.specs.declared.Source.{Source}
 use Rattle.store.specs.declared.Held.{Held}
-use Rattle.store.specs.Slots.{slot_bytes, found, any_torn, bytes, Each}
-use Rattle.store.specs.Store.{source_count, receiver_count, wall_count, source_size, receiver_size, wall_size, source_slots, receiver_slots, wall_slots, split, walls_begin, store_length, source_party, held_party, wall_party, Book, book, damaged, book_of, book_bytes, cleared_bytes, empty_book, SourceStands, HeldStands, WallStands, SoundBook, source_at, receiver_at, wall_at, source_slot_of, source_slot_entry, seat_of, seat_entry, wall_slot_of, wall_slot_entry}
+use Rattle.store.specs.Slots.{slot_bytes, found, any_torn, bytes, Each, entry}
+use Rattle.store.specs.Store.{source_count, receiver_count, wall_count, source_size, receiver_size, wall_size, source_slots, receiver_slots, wall_slots, split, walls_begin, store_length, source_party, held_party, wall_party, Book, book, damaged, book_of, book_bytes, cleared_bytes, empty_book, SourceStands, HeldStands, WallStands, SoundBook, source_at, receiver_at, wall_at, source_slot_of, seat_of, wall_slot_of}
 use Rattle.store.proofs.Slots.{either_false, who_in, length_bytes, bytes_are, length_entries, place, entry_is, set_bytes, set_behind, bytes_none, part_bytes, part_read, entries_stand}
 use Rattle.store.proofs.Parties.{source_lawful, held_lawful, wall_lawful}
 
@@ -64,7 +64,6 @@ undamaged s e =
     let r = either_false b c q.1 in
     (eqb-true (length s) store_length (not-false (eqb (length s) store_length) p.0), q.0, r.0, r.1)
 
--- and damage where the length is right: a torn slot of any kind
 -- a store of another length is damaged
 pub wrong_length : (s : List ℕ) → length s ≢ store_length → damaged s ≡ true
 unfolding damaged
@@ -72,6 +71,7 @@ wrong_length s h =
     ap (λ (b : Bool). not b || (any_torn (found source_party s) || (any_torn (found held_party (drop split s)) || any_torn (found wall_party (drop walls_begin s)))))
     (ne_eqb (length s) store_length h)
 
+-- and one of the right length is where a slot of any kind is torn
 pub torn_damage : (s : List ℕ) (a b c : Bool) → length s ≡ store_length → any_torn (found source_party s) ≡ a
     → any_torn (found held_party (drop split s)) ≡ b → any_torn (found wall_party (drop walls_begin s)) ≡ c → damaged s ≡ (a || (b || c))
 unfolding damaged
@@ -158,71 +158,43 @@ book_bytes_lem b h =
 
 -- ---- one slot
 
-pub source_slot_is : (s : List ℕ) (i : ℕ) → damaged s ≡ false → i < source_count → get_or (book_of s).sources i none ≡ source_slot_entry (source_slot_of (source_at i s))
+pub source_slot_is : (s : List ℕ) (i : ℕ) → damaged s ≡ false → i < source_count → get_or (book_of s).sources i none ≡ entry (source_slot_of (source_at i s))
 unfolding book_of source_slot_of
 source_slot_is s i h l = entry_is source_party source_slots i s (rw many_sources l) (undamaged s h).1
 
-pub seat_is : (s : List ℕ) (j : ℕ) → damaged s ≡ false → j < receiver_count → get_or (book_of s).receivers j none ≡ seat_entry (seat_of (receiver_at j s))
+pub seat_is : (s : List ℕ) (j : ℕ) → damaged s ≡ false → j < receiver_count → get_or (book_of s).receivers j none ≡ entry (seat_of (receiver_at j s))
 unfolding book_of seat_of
 seat_is s j h l = entry_is held_party receiver_slots j (drop split s) (rw many_receivers l) (undamaged s h).2 ∙ ap (who_in held_party) (place held_party split j s)
 
-pub wall_slot_is : (s : List ℕ) (k : ℕ) → damaged s ≡ false → k < wall_count → get_or (book_of s).walls k none ≡ wall_slot_entry (wall_slot_of (wall_at k s))
+pub wall_slot_is : (s : List ℕ) (k : ℕ) → damaged s ≡ false → k < wall_count → get_or (book_of s).walls k none ≡ entry (wall_slot_of (wall_at k s))
 unfolding book_of wall_slot_of
 wall_slot_is s k h l = entry_is wall_party wall_slots k (drop walls_begin s) (rw many_walls l) (undamaged s h).3 ∙ ap (who_in wall_party) (place wall_party walls_begin k s)
 
--- what the mark of a slot says of the book
-in_use : {A : Type 0} (P : A → Type 0) (l : List (Option A)) (i : ℕ) (b : Bool) (a : A) → Each P l → get_or l i none ≡ cond b (some a) none → b ≡ true
+-- what a slot that was read says of the book
+in_use : {A : Type 0} (P : A → Type 0) (l : List (Option A)) (i : ℕ) (o : RustOption A) (a : A) → Each P l → get_or l i none ≡ entry o → o ≡ Some a
     → (get_or l i none ≡ some a) × P a
-in_use P l i b a h e u = let f = e ∙ ap (λ (t : Bool). cond t (some a) none) u in (f, h i a f)
+in_use P l i o a h e u = let f = e ∙ ap entry u in (f, h i a f)
 
-not_in_use : {A : Type 0} (l : List (Option A)) (i : ℕ) (b : Bool) (a : A) → get_or l i none ≡ cond b (some a) none → b ≡ false → get_or l i none ≡ none
-not_in_use l i b a e u = e ∙ ap (λ (t : Bool). cond t (some a) none) u
+pub source_slot_used : (s : List ℕ) (i : ℕ) → damaged s ≡ false → i < source_count → (a : Source) → source_slot_of (source_at i s) ≡ Some a
+    → (get_or (book_of s).sources i none ≡ some a) × SourceStands a
+source_slot_used s i h l a u = in_use SourceStands (book_of s).sources i _ a (sound_book s h).sources_stand (source_slot_is s i h l) u
 
-pub source_slot_used : (s : List ℕ) (i : ℕ) → damaged s ≡ false → i < source_count → (source_slot_of (source_at i s)).used ≡ true
-    → (get_or (book_of s).sources i none ≡ some (source_slot_of (source_at i s)).source) × SourceStands (source_slot_of (source_at i s)).source
-source_slot_used s i h l u = in_use SourceStands (book_of s).sources i _ _ (sound_book s h).sources_stand (source_slot_is s i h l) u
+pub source_slot_free : (s : List ℕ) (i : ℕ) → damaged s ≡ false → i < source_count → source_slot_of (source_at i s) ≡ None → get_or (book_of s).sources i none ≡ none
+source_slot_free s i h l u = source_slot_is s i h l ∙ ap entry u
 
-pub source_slot_free : (s : List ℕ) (i : ℕ) → damaged s ≡ false → i < source_count → (source_slot_of (source_at i s)).used ≡ false → get_or (book_of s).sources i none ≡ none
-source_slot_free s i h l u = not_in_use (book_of s).sources i _ _ (source_slot_is s i h l) u
+pub seat_used : (s : List ℕ) (j : ℕ) → damaged s ≡ false → j < receiver_count → (a : Held) → seat_of (receiver_at j s) ≡ Some a
+    → (get_or (book_of s).receivers j none ≡ some a) × HeldStands a
+seat_used s j h l a u = in_use HeldStands (book_of s).receivers j _ a (sound_book s h).receivers_stand (seat_is s j h l) u
 
-pub seat_used : (s : List ℕ) (j : ℕ) → damaged s ≡ false → j < receiver_count → (seat_of (receiver_at j s)).used ≡ true
-    → (get_or (book_of s).receivers j none ≡ some (seat_of (receiver_at j s)).held) × HeldStands (seat_of (receiver_at j s)).held
-seat_used s j h l u = in_use HeldStands (book_of s).receivers j _ _ (sound_book s h).receivers_stand (seat_is s j h l) u
+pub seat_free : (s : List ℕ) (j : ℕ) → damaged s ≡ false → j < receiver_count → seat_of (receiver_at j s) ≡ None → get_or (book_of s).receivers j none ≡ none
+seat_free s j h l u = seat_is s j h l ∙ ap entry u
 
-pub seat_free : (s : List ℕ) (j : ℕ) → damaged s ≡ false → j < receiver_count → (seat_of (receiver_at j s)).used ≡ false → get_or (book_of s).receivers j none ≡ none
-seat_free s j h l u = not_in_use (book_of s).receivers j _ _ (seat_is s j h l) u
+pub wall_slot_used : (s : List ℕ) (k : ℕ) → damaged s ≡ false → k < wall_count → (a : Wall) → wall_slot_of (wall_at k s) ≡ Some a
+    → (get_or (book_of s).walls k none ≡ some a) × WallStands a
+wall_slot_used s k h l a u = in_use WallStands (book_of s).walls k _ a (sound_book s h).walls_stand (wall_slot_is s k h l) u
 
-pub wall_slot_used : (s : List ℕ) (k : ℕ) → damaged s ≡ false → k < wall_count → (wall_slot_of (wall_at k s)).used ≡ true
-    → (get_or (book_of s).walls k none ≡ some (wall_slot_of (wall_at k s)).wall) × WallStands (wall_slot_of (wall_at k s)).wall
-wall_slot_used s k h l u = in_use WallStands (book_of s).walls k _ _ (sound_book s h).walls_stand (wall_slot_is s k h l) u
-
-pub wall_slot_free : (s : List ℕ) (k : ℕ) → damaged s ≡ false → k < wall_count → (wall_slot_of (wall_at k s)).used ≡ false → get_or (book_of s).walls k none ≡ none
-wall_slot_free s k h l u = not_in_use (book_of s).walls k _ _ (wall_slot_is s k h l) u
-
--- a walk from slot 0 on: what is left begins with the next slot's entry
-next : {A : Type 0} (l : List (Option A)) (i n : ℕ) (o : Option A) → length l ≡ n → i < n → get_or l i none ≡ o → drop i l ≡ o ∷ drop (i + 1) l
-next l i n o e h f = rw add-one (drop-cons l i none (omega arith) ∙ ap (λ x. x ∷ drop (suc i) l) f)
-
-pub next_source : (s : List ℕ) (i : ℕ) → damaged s ≡ false → i < source_count
-    → drop i (book_of s).sources ≡ source_slot_entry (source_slot_of (source_at i s)) ∷ drop (i + 1) (book_of s).sources
-next_source s i h l = next (book_of s).sources i source_count _ (sound_book s h).source_slots_lem l (source_slot_is s i h l)
-
-pub next_held : (s : List ℕ) (j : ℕ) → damaged s ≡ false → j < receiver_count
-    → drop j (book_of s).receivers ≡ seat_entry (seat_of (receiver_at j s)) ∷ drop (j + 1) (book_of s).receivers
-next_held s j h l = next (book_of s).receivers j receiver_count _ (sound_book s h).seats l (seat_is s j h l)
-
-pub next_wall : (s : List ℕ) (k : ℕ) → damaged s ≡ false → k < wall_count
-    → drop k (book_of s).walls ≡ wall_slot_entry (wall_slot_of (wall_at k s)) ∷ drop (k + 1) (book_of s).walls
-next_wall s k h l = next (book_of s).walls k wall_count _ (sound_book s h).wall_slots_lem l (wall_slot_is s k h l)
-
-pub no_source_left : (s : List ℕ) (i : ℕ) → damaged s ≡ false → source_count ≤ i → drop i (book_of s).sources ≡ []
-no_source_left s i h l = drop_of_length-le (book_of s).sources {i = i} (omega (arith, (sound_book s h).source_slots_lem))
-
-pub no_held_left : (s : List ℕ) (j : ℕ) → damaged s ≡ false → receiver_count ≤ j → drop j (book_of s).receivers ≡ []
-no_held_left s j h l = drop_of_length-le (book_of s).receivers {i = j} (omega (arith, (sound_book s h).seats))
-
-pub no_wall_left : (s : List ℕ) (k : ℕ) → damaged s ≡ false → wall_count ≤ k → drop k (book_of s).walls ≡ []
-no_wall_left s k h l = drop_of_length-le (book_of s).walls {i = k} (omega (arith, (sound_book s h).wall_slots_lem))
+pub wall_slot_free : (s : List ℕ) (k : ℕ) → damaged s ≡ false → k < wall_count → wall_slot_of (wall_at k s) ≡ None → get_or (book_of s).walls k none ≡ none
+wall_slot_free s k h l u = wall_slot_is s k h l ∙ ap entry u
 
 -- ---- a write of a slot
 
@@ -309,18 +281,6 @@ holds_bytes b h = let e = book_bytes_lem b h in record { bytes = bytes_of_bytes 
 -- bytes that are those of a sound book hold it
 holds_as : (s : List ℕ) (b : Book) → s ≡ book_bytes b → SoundBook b → Holds s b
 holds_as s b e h = subst (λ (t : List ℕ). Holds t b) (sym e) (holds_bytes b h)
-
-pub source_written : (s : List ℕ) (i : ℕ) (o : Option Source) → Bytes s → damaged s ≡ false → i < source_count → ((a : Source) → o ≡ some a → SourceStands a)
-    → Holds (over (i * source_size) (slot_bytes source_party o) s) (book (set (book_of s).sources i o) (book_of s).receivers (book_of s).walls)
-source_written s i o b h l k = holds_as _ _ (set_source s i o b h l) (sound_source (book_of s) i o (sound_book s h) k)
-
-pub held_written : (s : List ℕ) (j : ℕ) (o : Option Held) → Bytes s → damaged s ≡ false → j < receiver_count → ((a : Held) → o ≡ some a → HeldStands a)
-    → Holds (over (split + j * receiver_size) (slot_bytes held_party o) s) (book (book_of s).sources (set (book_of s).receivers j o) (book_of s).walls)
-held_written s j o b h l k = holds_as _ _ (set_held s j o b h l) (sound_held (book_of s) j o (sound_book s h) k)
-
-pub wall_written : (s : List ℕ) (i : ℕ) (o : Option Wall) → Bytes s → damaged s ≡ false → i < wall_count → ((a : Wall) → o ≡ some a → WallStands a)
-    → Holds (over (walls_begin + i * wall_size) (slot_bytes wall_party o) s) (book (book_of s).sources (book_of s).receivers (set (book_of s).walls i o))
-wall_written s i o b h l k = holds_as _ _ (set_wall s i o b h l) (sound_wall (book_of s) i o (sound_book s h) k)
 
 -- ---- a cleared store
 

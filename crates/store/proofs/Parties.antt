@@ -1,20 +1,21 @@
 -- Sources, receivers and walls are parties that the laws of slots hold for. Assumes nothing.
-use Prim.Native.Nat.{ℕ, suc, ◌≤◌}
+use Rattle.std.proofs.Common.{rules}
+use Rattle.std.specs.Prelude.{Ok, Err, is_err}
+use Prim.Native.Nat.{ℕ, ◌≤◌}
 use mathlib.Core.Path.{◌≡◌, refl, sym, ap, ap₂, ◌∙◌}
-use mathlib.Core.Bool.{Bool, true, false, ◌&&◌, ◌||◌}
+use mathlib.Core.Bool.{Bool, true, false, not, ◌&&◌, ◌||◌, true≢false}
 use mathlib.Core.List.{List, [], ◌∷◌, ◌++◌}
 use native.Mathlib.Omega.{arith}
 use borrow.Author.Tests.{eqb-true}
 use lib.Dec.{eqb}
-use lib.ListN.{length, get_or, take, drop, length-drop, take-append-drop}
+use lib.ListN.{length, take, drop, length-drop, take-append-drop}
 use Rattle.layout.specs.Layout.{Within}
 use Rattle.layout.proofs.Bounds.{both}
 use Rattle.course.specs.declared.Course.{Course}
 use Rattle.course.specs.declared.Course.TheVariants.{Uncut, Between}
 use Rattle.screen.specs.declared.Wall.{Wall}
 use Rattle.road.specs.declared.Source.{Source}
-use Rattle.road.specs.declared.Verdict.{Verdict}
-use Rattle.road.specs.declared.Verdict.TheVariants.{Allowed, Refused}
+use Rattle.road.specs.Results.{Verdict}
 use Rattle.road.specs.Fields.{source_table, receiver_table, wall_table, source_of, values_by, slot_bits_by}
 use Rattle.road.specs.Judge.{source_verdict, receiver_verdict, wall_verdict}
 use Rattle.road.proofs.Rows.{source_again, source_values_again, all_of}
@@ -23,19 +24,34 @@ use Rattle.store.specs.declared.Held.{Held}
 use Rattle.account.specs.Account.{sound}
 use Rattle.store.specs.Slots.{party_layout}
 use Rattle.store.specs.Store.{is_allowed, course_numbers, course_bits, is_course, course_from, source_from, source_party, held_fields, held_from, held_party, wall_from, wall_party, SourceStands, HeldStands, WallStands}
-use Rattle.account.proofs.Laws.{sound_le}
 use Rattle.store.proofs.Slots.{Lawful, two_within}
 
 -- ---- sources
 
-allowed_is : (v : Verdict) → is_allowed v ≡ true → v ≡ Allowed
-allowed_is Allowed e = refl
-allowed_is (Refused why) e = absurd (let z : ◌≡◌ {A = ℕ} 0 1 = cc in omega arith)
+allowed_is : (v : Verdict) → is_allowed v ≡ true → v ≡ Ok tt
+allowed_is (Ok tt) e = refl
+allowed_is (Err why) e = absurd (let z : ◌≡◌ {A = ℕ} 0 1 = cc in omega arith)
 
--- what stands behind the mark
-pub behind_mark : (v : List ℕ) (i : ℕ) → get_or (drop 1 v) i 0 ≡ get_or v (suc i) 0
-behind_mark [] i = refl
-behind_mark (m ∷ v) i = refl
+pub refused_is : (v : Verdict) → is_err v ≡ not (is_allowed v)
+refused_is (Ok tt) = refl
+refused_is (Err why) = refl
+
+-- the first of two tests decides, or leaves it to the second
+pub refused_first : (v : Verdict) (b : Bool) → is_err v ≡ true → is_err v ≡ not (is_allowed v && b)
+refused_first (Ok tt) b e = absurd (true≢false (sym e))
+refused_first (Err why) b e = refl
+
+pub refused_second : (v : Verdict) (b : Bool) → is_err v ≡ false → not b ≡ not (is_allowed v && b)
+refused_second (Ok tt) b e = refl
+refused_second (Err why) b e = absurd (true≢false e)
+
+pub no_course : (b : Bool) (v : Verdict) → b ≡ false → not b ≡ not (b && is_allowed v)
+no_course true v e = absurd (true≢false e)
+no_course false v e = refl
+
+pub with_course : (b : Bool) (v : Verdict) → b ≡ true → is_err v ≡ not (b && is_allowed v)
+with_course true v e = refused_is v
+with_course false v e = absurd (true≢false (sym e))
 
 -- what is written of a course is one, is read again, and the rest stands behind it
 course_known : (c : Course) (rest : List ℕ) → is_course (course_numbers c ++ rest) ≡ true
@@ -84,10 +100,10 @@ source_reread s h =
 
 source_okay : (s : Source) → SourceStands s → source_party.ok (1 ∷ source_party.to s) ≡ true
 source_okay s h =
-    let e : source_verdict (source_from (1 ∷ source_party.to s)) ≡ Allowed = ap source_verdict (source_reread s h.1) ∙ h.0 in
+    let e : source_verdict (source_from (1 ∷ source_party.to s)) ≡ (Ok tt) = ap source_verdict (source_reread s h.1) ∙ h.0 in
     λ i. course_known s.course (values_by source_table s) i && is_allowed (e i)
 
-pub source_fits : (s : Source) → source_verdict s ≡ Allowed → Within (party_layout source_party) (1 ∷ (course_numbers s.course ++ values_by source_table s))
+pub source_fits : (s : Source) → source_verdict s ≡ Ok tt → Within (party_layout source_party) (1 ∷ (course_numbers s.course ++ values_by source_table s))
 source_fits s e =
     let f = rest_allowed s e in
     (omega arith, two_within course_bits (slot_bits_by source_table) (course_numbers s.course) (values_by source_table s) (course_fits s.course f.0) (source_in_slot s f.1))
@@ -107,9 +123,8 @@ source_lawful =
 
 pub held_fits : (h : Held) → HeldStands h → Within (party_layout held_party) (1 ∷ held_fields h)
 held_fits h k =
-    let s = sound_le h.sums k.1 in
     let e = h.sums.day ∷ h.sums.evening ∷ h.sums.night ∷ [] in
-    let l : Within (64 ∷ 64 ∷ 64 ∷ []) e = (omega arith, (omega arith, (omega arith, tt))) in
+    let l : Within (64 ∷ 64 ∷ 64 ∷ []) e = (grind (arith, rules, k.1), (grind (arith, rules, k.1), (grind (arith, rules, k.1), tt))) in
     (omega arith, two_within (slot_bits_by receiver_table) (64 ∷ 64 ∷ 64 ∷ []) (values_by receiver_table h.who) e (receiver_in_slot h.who k.0) l)
 
 held_stands : (vs : List ℕ) → held_party.ok vs ≡ true → HeldStands (held_from vs)

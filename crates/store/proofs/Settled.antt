@@ -10,9 +10,6 @@ damaged_settled l a = settled _ _
 wipe_settled : Settles (λ l a r e. e.0.now) proofs.wipe.Reads.Post
 wipe_settled l a = settled _ _
 
-marked_settled : SettlesResult proofs.sources.marked.Reads.Post
-marked_settled l a = settled _ _
-
 source_slot_settled : SettlesResult proofs.sources.source_slot.Reads.Post
 source_slot_settled l a = settled _ _
 
@@ -30,9 +27,6 @@ put_held_settled l a = settled _ _
 
 drop_held_settled : Settles (λ l a r e. e.0.now) proofs.receivers.drop_held.Reads.Post
 drop_held_settled l a = settled _ _
-
-wall_marked_settled : SettlesResult proofs.walls.marked.Reads.Post
-wall_marked_settled l a = settled _ _
 
 wall_slot_settled : SettlesResult proofs.walls.wall_slot.Reads.Post
 wall_slot_settled l a = settled _ _

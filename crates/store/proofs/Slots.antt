@@ -1,27 +1,30 @@
 -- The laws of slots, once for every party: what is written is read again, what is read is written again, and a write changes one slot.
 -- Assumes nothing.
+use Rattle.std.specs.Prelude.{Some, None}
+use Rattle.std.specs.Bool.{MatchBool}
+use Rattle.std.specs.List.{AllWithin, HoldsAt, range_with_len}
+use Rattle.std.proofs.lemmas.List.FromFn.{length-range_with_len, get_or-range_with_len}
 use Prim.Native.Nat.{ℕ, zero, suc, ◌+◌, ◌*◌, ◌-◌, ◌≤◌, ◌<◌}
 use mathlib.Core.Path.{◌≡◌, refl, sym, ap, ap₂, ◌∙◌, subst}
 use mathlib.Core.Logic.{◌⊎◌, inl, inr, ⊎_elim}
 use mathlib.Core.Bool.{Bool, true, false, cond, not, ◌&&◌, ◌||◌, true≢false}
 use mathlib.Core.List.{List, [], ◌∷◌, ◌++◌, append_assoc, append-nil}
 use mathlib.Core.Option.{Option, none, some}
-use native.Mathlib.Nat.{sub-zero, zero-mul, suc-mul, add_comm}
-use native.Mathlib.Numerals.{add-one}
+use native.Mathlib.Nat.{add-zero, zero-add, zero-mul, suc-mul, add_comm}
 use native.Mathlib.Omega.{arith}
 use borrow.Author.Tests.{eqb-true, eq-eqb, ne_eqb}
 use lib.Dec.{eqb, lit<}
 use lib.ListN.{length, get_or, take, drop, set, replicate, length-append, length-drop, length-replicate, take-append-drop, replicate-append-replicate, drop_of_length-le}
-use lib.Seq.{length-take-le, take_all, take_at, drop_at, take-add, take-append-add, drop-append-add, drop-drop}
+use lib.Seq.{get_or-take, get_or-drop, length-take-le, take_all, take_at, drop_at, take-add, take-append-add, drop-append-add, drop-drop}
 use lib.Pow.{pow_pos}
-use Rattle.layout.specs.Layout.{Within, Bytes, size, sized, bits, fields, packed}
+use Rattle.layout.specs.Layout.{Within, Bytes, sum, size, sized, bits, fields, packed}
 use Rattle.layout.specs.Over.{over}
-use Rattle.layout.proofs.Numbers.{bytes_append, bytes_take, bytes_drop}
+use Rattle.layout.proofs.Numbers.{bytes_append, bytes_take, bytes_drop, bits_take, num_snoc, num_none}
 use Rattle.layout.proofs.Bounds.{both}
-use Rattle.layout.proofs.Laws.{length_fields, fields_within, length_packed, packed_bytes, fields_packed, packed_fields, packed_zeros, fields_zeros, field_bits}
+use Rattle.layout.proofs.Laws.{sized_whole, length_fields, fields_within, length_packed, packed_bytes, fields_packed, packed_fields, packed_zeros, fields_zeros, field_bits}
 use Rattle.road.specs.Fields.{Fit}
 use Rattle.road.proofs.Rows.{record_fit}
-use Rattle.store.specs.Slots.{Party, Slot, empty, used, torn, all_zero, party_layout, slot_size, slot_by, slot_of, slot_bytes, is_torn, entry_of, slot_at, slots, entries, any_torn, bytes, Each}
+use Rattle.store.specs.Slots.{Party, Slot, empty, used, torn, all_zero, party_layout, slot_size, slot_by, slot_of, slot_bytes, is_torn, entry_of, read_by, entry, slot_at, slots, entries, any_torn, bytes, Each}
 
 pub either_false : (x y : Bool) → (x || y) ≡ false → (x ≡ false) × (y ≡ false)
 either_false true y e = absurd (true≢false e)
@@ -63,6 +66,25 @@ fields_fit ws s v e =
     (subst (λ (t : List ℕ). Within ws (take (length ws) t)) (sym e)
     (subst (Within ws) (sym (take_all (length ws) (fields ws s) (omega (arith, length_fields ws s)))) (fields_within ws s)))
 
+-- what a look at each number tells
+all_noughts : (vs : List ℕ) → ((k : ℕ) → k < length vs → get_or vs k 0 ≡ 0) → all_zero vs ≡ true
+all_noughts [] h = refl
+all_noughts (v ∷ vs) h = ap₂ (λ (a b : Bool). a && b) (eq-eqb v 0 (h 0 (omega arith))) (all_noughts vs (λ k l. h (suc k) (omega arith)))
+
+one_not_nought : (vs : List ℕ) (k : ℕ) → k < length vs → (get_or vs k 0 ≡ 0 → ⊥) → all_zero vs ≡ false
+one_not_nought [] k l n = absurd (omega arith)
+one_not_nought (v ∷ vs) zero l n = ap (λ (b : Bool). b && all_zero vs) (ne_eqb v 0 n)
+one_not_nought (v ∷ vs) (suc k) l n = ap (λ (b : Bool). eqb v 0 && b) (one_not_nought vs k (omega arith) n) ∙ neither (eqb v 0)
+  where
+    neither : (b : Bool) → (b && false) ≡ false
+    neither true = refl
+    neither false = refl
+
+pub zeros_by : (vs : List ℕ) (r : Bool)
+    → MatchBool r (AllWithin (λ (x : ℕ). x ≡ 0) vs 0 (length vs)) ((k : ℕ) × (k < length vs) × HoldsAt (λ (x : ℕ). x ≡ 0 → ⊥) vs k) → r ≡ all_zero vs
+zeros_by vs true h = sym (all_noughts vs (λ k l. h k 0 (omega arith) l))
+zeros_by vs false h = sym (one_not_nought vs h.0 h.1 (h.2 0))
+
 -- a write over the first of two lists, and behind it
 over_first : (t x s : List ℕ) → length x ≡ length t → over 0 t (x ++ s) ≡ t ++ s
 unfolding over
@@ -75,6 +97,10 @@ over_behind x t s k at e =
     let j : k + at + length t ≡ length x + (at + length t) = omega arith in
     let b : drop (k + at + length t) (x ++ s) ≡ drop (at + length t) s = rw j (drop-append-add x s (at + length t)) in
     rw (a, b) (append_assoc x (take at s) _)
+
+-- the first eight bits are the first byte
+first_bits : (s : List ℕ) → Bytes s → 1 ≤ length s → bits 0 8 s ≡ get_or s 0 0
+first_bits s b h = bits_take s 0 8 0 1 b h refl ∙ omega (arith, num_snoc s 0 (omega arith), num_none, b 0)
 
 -- the bytes from a slot on, lent to be written, and come back
 pub lent_back : (ws vs s : List ℕ) (at : ℕ) → at ≤ length s
@@ -154,30 +180,45 @@ module _ {A : Type 0} (p : Party A) where
   slot_bytes_lem (some a) = packed_bytes (party_layout p) (1 ∷ p.to a)
 
   -- a slot as its mark says is the slot as it is found, where it is not torn
-  pub marked : (vs : List ℕ) → is_torn (slot_by p vs) ≡ false
-      → entry_of (slot_by p vs) ≡ cond (eqb (get_or vs 0 0) 1) (some (p.from vs)) none
+  pub marked : (vs : List ℕ) → is_torn (slot_by p vs) ≡ false → entry_of (slot_by p vs) ≡ entry (read_by p vs)
   marked vs h =
       ⊎_elim
       (λ (w : (all_zero vs ≡ true) × (slot_by p vs ≡ empty)). ap entry_of w.1 ∙ unmarked vs w.0)
       (λ (w : (get_or vs 0 0 ≡ 1) × (p.ok vs ≡ true) × (slot_by p vs ≡ used (p.from vs))).
-      ap entry_of w.2 ∙ sym (ap (λ (m : ℕ). cond (eqb m 1) (some (p.from vs)) none) w.0))
+      ap entry_of w.2 ∙ sym (ap (λ (m : ℕ). entry (cond (eqb m 1) (Some (p.from vs)) None)) w.0))
       (whole vs h)
     where
-      nought : (n : ℕ) → cond (eqb (get_or (replicate n 0) 0 0) 1) (some (p.from vs)) none ≡ none
+      nought : (n : ℕ) → entry (cond (eqb (get_or (replicate n 0) 0 0) 1) (Some (p.from vs)) None) ≡ none
       nought zero = refl
       nought (suc n) = refl
 
-      unmarked : (l : List ℕ) → all_zero l ≡ true → none ≡ cond (eqb (get_or l 0 0) 1) (some (p.from vs)) none
-      unmarked l e = sym (ap (λ (m : List ℕ). cond (eqb (get_or m 0 0) 1) (some (p.from vs)) none) (all_zero_lem l e) ∙ nought (length l))
+      unmarked : (l : List ℕ) → all_zero l ≡ true → none ≡ entry (cond (eqb (get_or l 0 0) 1) (Some (p.from vs)) None)
+      unmarked l e = sym (ap (λ (m : List ℕ). entry (cond (eqb (get_or m 0 0) 1) (Some (p.from vs)) None)) (all_zero_lem l e) ∙ nought (length l))
 
-  -- the mark is the first eight bits
-  pub mark_is : (s : List ℕ) (at n : ℕ) → sized (party_layout p) ≡ true → Bytes s → at + slot_size p ≤ length s
-      → n ≡ bits 0 8 (take (slot_size p) (drop at s)) → eqb n 1 ≡ eqb (get_or (fields (party_layout p) (take (slot_size p) (drop at s))) 0 0) 1
-  mark_is s at n h b l e =
+  -- what a look at the first byte of a slot tells of it
+  mark_in : (s : List ℕ) (at : ℕ) → sized (party_layout p) ≡ true → Bytes s → at + slot_size p ≤ length s
+      → get_or (fields (party_layout p) (take (slot_size p) (drop at s))) 0 0 ≡ get_or s at 0
+  mark_in s at h b l =
       let t = take (slot_size p) (drop at s) in
       let k : length t ≡ slot_size p = length-take-le (slot_size p) (drop at s) (omega (arith, length-drop at s)) in
-      ap (λ (m : ℕ). eqb m 1)
-      (e ∙ sym (field_bits (party_layout p) t 0 h (omega (arith, k)) (bytes_take (slot_size p) (drop at s) (bytes_drop at s b)) (omega arith)))
+      let o : 8 * slot_size p ≡ sum (party_layout p) = sized_whole (party_layout p) h in
+      let c : Bytes t = bytes_take (slot_size p) (drop at s) (bytes_drop at s b) in
+      field_bits (party_layout p) t 0 h (omega (arith, k)) c (omega arith) ∙ first_bits t c (omega (arith, k, o))
+      ∙ get_or-take (slot_size p) (drop at s) 0 0 (omega (arith, o)) ∙ get_or-drop at s 0 0 ∙ ap (λ (n : ℕ). get_or s n 0) (add-zero at)
+
+  pub unmarked_slot : (s : List ℕ) (at : ℕ) → sized (party_layout p) ≡ true → Bytes s → at + slot_size p ≤ length s
+      → eqb (get_or s at 0) 1 ≡ false → None ≡ read_by p (fields (party_layout p) (take (slot_size p) (drop at s)))
+  unmarked_slot s at h b l f =
+      let vs = fields (party_layout p) (take (slot_size p) (drop at s)) in
+      sym (ap (λ (m : ℕ). cond (eqb m 1) (Some (p.from vs)) None) (mark_in s at h b l) ∙ ap (λ (t : Bool). cond t (Some (p.from vs)) None) f)
+
+  pub marked_slot : (s : List ℕ) (at : ℕ) (a : A) → sized (party_layout p) ≡ true → Bytes s → at + slot_size p ≤ length s
+      → eqb (get_or s at 0) 1 ≡ true → a ≡ p.from (fields (party_layout p) (take (slot_size p) (drop at s)))
+      → Some a ≡ read_by p (fields (party_layout p) (take (slot_size p) (drop at s)))
+  marked_slot s at a h b l f e =
+      let vs = fields (party_layout p) (take (slot_size p) (drop at s)) in
+      ap (λ (x : A). Some x) e
+      ∙ sym (ap (λ (m : ℕ). cond (eqb m 1) (Some (p.from vs)) None) (mark_in s at h b l) ∙ ap (λ (t : Bool). cond t (Some (p.from vs)) None) f)
 
   module _ (Stands : A → Type 0) (law : Lawful p Stands) where
     -- numbers with the mark 1 are those of what they describe
@@ -229,7 +270,12 @@ module _ {A : Type 0} (p : Party A) where
 
 -- who is in the slot at the front of bytes, as its mark says
 abbrev pub who_in : {A : Type 0} → Party A → List ℕ → Option A
-who_in p s = cond (eqb (get_or (fields (party_layout p) s) 0 0) 1) (some (p.from (fields (party_layout p) s))) none
+who_in p s = entry (read_by p (fields (party_layout p) s))
+
+-- slots that begin at the start of the bytes
+pub from_start : {A : Type 0} (p : Party A) (s : List ℕ) (i : ℕ)
+    → fields (party_layout p) (take (slot_size p) (drop (0 + i * slot_size p) s)) ≡ fields (party_layout p) (slot_at p i s)
+from_start p s i = ap (λ (m : ℕ). fields (party_layout p) (take (slot_size p) (drop m s))) (zero-add (i * slot_size p))
 
 -- ---- slots side by side
 
@@ -384,34 +430,34 @@ module _ {A : Type 0} (p : Party A) where
         let c = take (slot_size p) s in
         entries_stand n (drop (slot_size p) s) (either_false (is_torn (slot_of p c)) (any_torn (slots p n (drop (slot_size p) s))) h).1 i a e
 
--- ---- a search for a torn slot, from slot 0 on: its answer is that of a search of the slots from i on
+-- ---- a search for a torn slot: what it tells, whether it found one or looked at all of them
 
-abbrev rest : {A : Type 0} → Party A → ℕ → List ℕ → ℕ → List (Slot A)
-rest p n s i = slots p (n - i) (drop (i * slot_size p) s)
-
-abbrev pub Sought : {A : Type 0} → Party A → ℕ → List ℕ → ℕ → Type 0
-Sought p n s i = (i ≤ n) × (any_torn (rest p n s i) ≡ any_torn (slots p n s))
-
-module _ {A : Type 0} (p : Party A) (n : ℕ) (s : List ℕ) where
-  pub seek_start : Sought p n s 0
-  seek_start = (omega arith, ap₂ (λ (m k : ℕ). any_torn (slots p m (drop k s))) (sub-zero n) (zero-mul (slot_size p)))
-
-  -- the slot at i, and those behind it
-  more : (i : ℕ) → i < n → any_torn (rest p n s i) ≡ (is_torn (slot_of p (slot_at p i s)) || any_torn (rest p n s (i + 1)))
+module _ {A : Type 0} (p : Party A) where
+  none_torn : (n : ℕ) (s : List ℕ) → ((i : ℕ) → i < n → is_torn (slot_of p (slot_at p i s)) ≡ false) → any_torn (slots p n s) ≡ false
   unfolding slots any_torn
-  more i h =
-      let w = slot_size p in
-      let k : n - i ≡ suc (n - (i + 1)) = omega arith in
-      let j : i * w + w ≡ (i + 1) * w = rw (add-one i) (sym (suc-mul i w)) in
-      ap (λ (m : ℕ). any_torn (slots p m (drop (i * w) s))) k
-      ∙ ap (λ (t : List ℕ). is_torn (slot_of p (slot_at p i s)) || any_torn (slots p (n - (i + 1)) t)) (drop-drop w (i * w) s ∙ ap (λ (m : ℕ). drop m s) j)
+  none_torn zero s h = refl
+  none_torn (suc n) s h =
+      ap₂ (λ (a b : Bool). a || b) (ap (λ (t : List ℕ). is_torn (slot_of p t)) (front p s) ∙ h 0 (omega arith))
+      (none_torn n (drop (slot_size p) s) (λ i l. ap (λ (t : List ℕ). is_torn (slot_of p t)) (behind p i s) ∙ h (suc i) (omega arith)))
 
-  pub seek_hit : (i : ℕ) → i < n → Sought p n s i → is_torn (slot_of p (slot_at p i s)) ≡ true → true ≡ any_torn (slots p n s)
-  seek_hit i h v e = sym (more i h ∙ ap (λ (b : Bool). b || any_torn (rest p n s (i + 1))) e) ∙ v.1
+  one_torn : (n i : ℕ) (s : List ℕ) → i < n → is_torn (slot_of p (slot_at p i s)) ≡ true → any_torn (slots p n s) ≡ true
+  one_torn n i s l e = go (any_torn (slots p n s)) refl
+    where
+      go : (b : Bool) → any_torn (slots p n s) ≡ b → b ≡ true
+      go true f = refl
+      go false f = absurd (true≢false (sym e ∙ whole_at p n i s l f))
 
-  pub seek_on : (i : ℕ) → i < n → Sought p n s i → is_torn (slot_of p (slot_at p i s)) ≡ false → Sought p n s (i + 1)
-  seek_on i h v e = (omega arith, sym (more i h ∙ ap (λ (b : Bool). b || any_torn (rest p n s (i + 1))) e) ∙ v.1)
-
-  pub seek_end : (i : ℕ) → n ≤ i → Sought p n s i → false ≡ any_torn (slots p n s)
-  unfolding slots any_torn
-  seek_end i h v = let k : n - i ≡ 0 = omega arith in sym (ap (λ (m : ℕ). any_torn (slots p m (drop (i * slot_size p) s))) k) ∙ v.1
+  pub torn_by : (n : ℕ) (s : List ℕ) (t : ℕ → List ℕ) → ((i : ℕ) → slot_at p i s ≡ t i) → (r : Bool)
+      → MatchBool r ((k : ℕ) × (k < length (range_with_len 0 n)) × HoldsAt (λ (i : ℕ). is_torn (slot_of p (t i)) ≡ true) (range_with_len 0 n) k)
+      (AllWithin (λ (i : ℕ). is_torn (slot_of p (t i)) ≡ false) (range_with_len 0 n) 0 (length (range_with_len 0 n))) → r ≡ any_torn (slots p n s)
+  torn_by n s t e true h =
+      let k = h.0 in
+      let l : k < n = omega (arith, h.1, length-range_with_len 0 n) in
+      let m : get_or (range_with_len 0 n) k 0 ≡ k = get_or-range_with_len 0 n k 0 l ∙ zero-add k in
+      sym (one_torn n k s l (ap (λ (u : List ℕ). is_torn (slot_of p u)) (e k ∙ ap t (sym m)) ∙ h.2 0))
+  torn_by n s t e false h =
+      sym
+      (none_torn n s
+      (λ k l.
+      let m : get_or (range_with_len 0 n) k 0 ≡ k = get_or-range_with_len 0 n k 0 l ∙ zero-add k in
+      ap (λ (u : List ℕ). is_torn (slot_of p u)) (e k ∙ ap t (sym m)) ∙ h k 0 (omega arith) (omega (arith, l, length-range_with_len 0 n))))

@@ -1,5 +1,5 @@
 -- Slots side by side in bytes, for any party that stands in them: how a slot is read and written, and what damage is.
-use Rattle.std.specs.Prelude.{ℕ, zero, suc, ◌*◌, ◌≡◌, Bool, true, false, cond, ◌&&◌, ◌||◌, List, [], ◌∷◌, ◌++◌, map, get_or, take, drop, replicate, eqb}
+use Rattle.std.specs.Prelude.{ℕ, zero, suc, ◌*◌, ◌≡◌, Bool, true, false, cond, ◌&&◌, ◌||◌, List, [], ◌∷◌, ◌++◌, map, get_or, take, drop, replicate, eqb, Some, None, Option as RustOption}
 use Rattle.std.proofs.Math.Option.{Option, none, some}
 use Rattle.layout.specs.Layout.{size, fields, packed}
 
@@ -57,6 +57,15 @@ module _ {A : Type 0} where
   entry_of empty = none
   entry_of (used a) = some a
   entry_of torn = none
+
+  -- who is in a slot as its mark says, with its fields as they stand: the option of the code
+  abbrev pub read_by : Party A → List ℕ → RustOption A
+  read_by p vs = cond (eqb (get_or vs 0 0) 1) (Some (p.from vs)) None
+
+  -- and the book's option of the same
+  abbrev pub entry : RustOption A → Option A
+  entry None = none
+  entry (Some a) = some a
 
   -- ---- slots side by side
 

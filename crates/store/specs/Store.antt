@@ -1,23 +1,19 @@
 -- The store (docs/STORE.md) and the book that stands in it: three lists of slots, each not in use or with its entry.
-use Rattle.std.specs.Prelude.{ℕ, ◌+◌, ◌-◌, ◌*◌, ◌≡◌, Bool, true, false, cond, not, ◌&&◌, ◌||◌, List, [], ◌∷◌, ◌++◌, length, get_or, take, drop, replicate, eqb}
-use Rattle.std.proofs.Math.Option.{Option, none, some}
+use Rattle.std.specs.Prelude.{ℕ, ◌+◌, ◌-◌, ◌*◌, ◌≡◌, Bool, true, false, cond, not, ◌&&◌, ◌||◌, List, [], ◌∷◌, ◌++◌, length, get_or, take, drop, replicate, eqb, Ok, Err, Option as RustOption}
+use Rattle.std.proofs.Math.Option.{Option, none}
 use Rattle.layout.specs.Layout.{fields}
 use Rattle.course.specs.declared.Course.{Course}
 use Rattle.course.specs.declared.Course.TheVariants.{Uncut, Between}
 use Rattle.screen.specs.declared.Wall.{Wall}
 use Rattle.screen.specs.Screen.{wall_of}
 use Rattle.road.specs.declared.Source.{Source}
-use Rattle.road.specs.declared.Verdict.{Verdict}
-use Rattle.road.specs.declared.Verdict.TheVariants.{Allowed, Refused}
+use Rattle.road.specs.Results.{Verdict}
 use Rattle.road.specs.Fields.{piece_table, ends_table, source_table, receiver_table, wall_table, piece_of, ends_of, source_of, receiver_of, values_by, slot_bits_by}
 use Rattle.road.specs.Judge.{source_verdict, receiver_verdict, wall_verdict}
 use Rattle.account.specs.declared.Account.{Account}
 use Rattle.store.specs.declared.Held.{Held}
-use Rattle.store.specs.declared.SourceSlot.{SourceSlot}
-use Rattle.store.specs.declared.Seat.{Seat}
-use Rattle.store.specs.declared.WallSlot.{WallSlot}
 use Rattle.account.specs.Account.{sound}
-use Rattle.store.specs.Slots.{Party, party_layout, slot_size, found, entries, any_torn, bytes, Each}
+use Rattle.store.specs.Slots.{Party, party_layout, slot_size, found, entries, any_torn, bytes, Each, read_by}
 
 -- ---- how many slots there are: each number is said here and, for the code, in src/lib.rt
 
@@ -54,8 +50,8 @@ wall_slots = wall_count
 -- ---- the three parties: place 0 of a slot's numbers is the mark, and the rows of road's tables follow it
 
 abbrev pub is_allowed : Verdict → Bool
-is_allowed Allowed = true
-is_allowed (Refused why) = false
+is_allowed (Ok tt) = true
+is_allowed (Err why) = false
 
 -- a course is held as its form, of a byte, and four numbers: 0 with the middle, the length and a 0, or 1 with both ends
 abbrev pub course_numbers : Course → List ℕ
@@ -180,13 +176,13 @@ empty_book = book (replicate source_slots none) (replicate receiver_slots none) 
 
 -- a book that a store can hold; the code's array of three periods is a list of three here
 abbrev pub SourceStands : Source → Type 0
-SourceStands s = (source_verdict s ≡ Allowed) × (length s.traffic ≡ 3)
+SourceStands s = (source_verdict s ≡ Ok tt) × (length s.traffic ≡ 3)
 
 abbrev pub HeldStands : Held → Type 0
-HeldStands h = (receiver_verdict h.who ≡ Allowed) × (sound h.sums ≡ true)
+HeldStands h = (receiver_verdict h.who ≡ Ok tt) × (sound h.sums ≡ true)
 
 abbrev pub WallStands : Wall → Type 0
-WallStands w = wall_verdict w ≡ Allowed
+WallStands w = wall_verdict w ≡ Ok tt
 
 pub record SoundBook (b : Book) : Type 0 where
   pub source_slots_lem : length b.sources ≡ source_count
@@ -196,7 +192,16 @@ pub record SoundBook (b : Book) : Type 0 where
   pub receivers_stand : Each HeldStands b.receivers
   pub walls_stand : Each WallStands b.walls
 
--- ---- one slot as it is read: whether its mark says used, and its fields as they stand
+-- ---- one slot as it is read: who is in it, if its mark says used, with its fields as they stand
+
+abbrev pub SourceSlot : Type 0
+SourceSlot = RustOption Source
+
+abbrev pub Seat : Type 0
+Seat = RustOption Held
+
+abbrev pub WallSlot : Type 0
+WallSlot = RustOption Wall
 
 -- the bytes of source slot i, of receiver slot j and of wall slot k
 abbrev pub source_at : ℕ → List ℕ → List ℕ
@@ -208,30 +213,11 @@ receiver_at j s = take receiver_size (drop (split + j * receiver_size) s)
 abbrev pub wall_at : ℕ → List ℕ → List ℕ
 wall_at k s = take wall_size (drop (walls_begin + k * wall_size) s)
 
-abbrev pub source_slot_by : List ℕ → SourceSlot
-source_slot_by v = record { used = eqb (get_or v 0 0) 1; source = source_party.from v }
-
 unfoldable pub source_slot_of : List ℕ → SourceSlot
-source_slot_of s = source_slot_by (fields (party_layout source_party) s)
-
-abbrev pub seat_by : List ℕ → Seat
-seat_by v = record { used = eqb (get_or v 0 0) 1; held = held_from v }
+source_slot_of s = read_by source_party (fields (party_layout source_party) s)
 
 unfoldable pub seat_of : List ℕ → Seat
-seat_of s = seat_by (fields (party_layout held_party) s)
-
-abbrev pub wall_slot_by : List ℕ → WallSlot
-wall_slot_by v = record { used = eqb (get_or v 0 0) 1; wall = wall_from v }
+seat_of s = read_by held_party (fields (party_layout held_party) s)
 
 unfoldable pub wall_slot_of : List ℕ → WallSlot
-wall_slot_of s = wall_slot_by (fields (party_layout wall_party) s)
-
--- who is in it
-abbrev pub source_slot_entry : SourceSlot → Option Source
-source_slot_entry l = cond l.used (some l.source) none
-
-abbrev pub seat_entry : Seat → Option Held
-seat_entry t = cond t.used (some t.held) none
-
-abbrev pub wall_slot_entry : WallSlot → Option Wall
-wall_slot_entry l = cond l.used (some l.wall) none
+wall_slot_of s = read_by wall_party (fields (party_layout wall_party) s)

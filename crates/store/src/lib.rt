@@ -1,5 +1,6 @@
 // The book's state as bytes that the caller lends (docs/STORE.md): source slots, then receiver slots with their accounts, then wall slots.
 // specs/Store.antt says what book stands in the bytes and what damage is; the parts here read and write one slot.
+// By hand: each contract says the store's length, since the caller owns the bytes and lends them anew for each call.
 #![tactic(auto)]
 
 pub mod receivers;
@@ -8,12 +9,10 @@ pub mod sources;
 pub mod walls;
 
 ghost use Rattle.std.specs.Prelude.{◌≡◌, length};
-ghost use Rattle.level.specs.Table.{table};
 ghost use Rattle.store.specs.Store.{store_length, damaged, cleared_bytes};
 
 use account::Account;
-use road::{Receiver, Source};
-use screen::Wall;
+use road::Receiver;
 
 // How many source slots, receiver slots and wall slots a book has.
 pub const SOURCES: usize = 512;
@@ -52,42 +51,14 @@ pub struct Held {
     pub sums: Account,
 }
 
-// A source slot as it is read: whether its mark says used, and its fields as they stand.
-#[derive(Clone, Copy)]
-pub struct SourceSlot {
-    pub used: bool,
-    pub source: Source,
-}
-
-// A receiver slot as it is read.
-#[derive(Clone, Copy)]
-pub struct Seat {
-    pub used: bool,
-    pub held: Held,
-}
-
-// A wall slot as it is read.
-#[derive(Clone, Copy)]
-pub struct WallSlot {
-    pub used: bool,
-    pub wall: Wall,
-}
-
 // Whether the store is damaged.
-pub fn damaged(steps: &[u32; 1000], store: &[u8]) -> bool
-    requires { steps.now ≡ table }
+pub fn damaged(store: &[u8]) -> bool
     ensures { result ≡ damaged store.now }
 {
     if store.len() != LENGTH {
         return true;
     }
-    if sources::any_torn(steps, store) {
-        return true;
-    }
-    if receivers::any_torn(store) {
-        return true;
-    }
-    walls::any_torn(store)
+    sources::any_torn(store) || receivers::any_torn(store) || walls::any_torn(store)
 }
 
 // Makes every byte 0.
@@ -95,9 +66,5 @@ pub fn wipe(store: &mut [u8])
     requires { length store.old ≡ store_length }
     ensures { store.new ≡ cleared_bytes }
 {
-    let mut i = 0;
-    while i < store.len() {
-        store[i] = 0;
-        i += 1;
-    }
+    store.fill(0);
 }

@@ -1,45 +1,56 @@
-// A slot's numbers in the lent bytes, whatever party stands in it: read, written, marked as used, and looked at for zeros.
-// The widths are those of the party's layout.
-ghost use Rattle.std.specs.Prelude.{◌≡◌, true, ◌∷◌, ◌+◌, ◌≤◌, ◌<◌, length, drop};
+// Slots side by side in the lent bytes, whatever party stands in them: marked as used, read, written, and looked at for zeros.
+ghost use Rattle.std.specs.Prelude.{◌≡◌, true, ◌∷◌, ◌+◌, ◌*◌, ◌≤◌, ◌<◌, length, get_or, take, drop, eqb};
 ghost use Rattle.layout.specs.Layout.{size, sized, fields, packed, Within};
 ghost use Rattle.layout.specs.Over.{over};
 ghost use Rattle.store.specs.Slots.{all_zero};
 
-// Reads the numbers of the slot that begins at the index at: quicker where seven bytes to spare are known to follow it.
-pub(crate) fn get(store: &[u8], at: usize, ws: &[u8], vs: &mut [u64], spare: bool)
-    requires { (sized ws.now ≡ true) × (at + size ws.now ≤ length store.now) × (length vs.old ≡ length ws.now) × (spare ≡ true → at + size ws.now + 7 ≤ length store.now) }
-    ensures { vs.new ≡ fields ws.now (drop at store.now) }
-{
-    layout::take_fields(&store[at..], ws, vs, spare);
+// By hand in each part: a static's widths row by row, since its value may call nothing that goes over a table; and `torn`, of which three
+// lines are alike, since numbers of each length have their own judge, and a contract of a closure for it would be longer than they are.
+
+// Where slots begin, how many bytes each has, and the widths in bits of its numbers.
+pub(crate) struct Slots<const N: usize> {
+    pub(crate) begin: usize,
+    pub(crate) size: usize,
+    pub(crate) widths: [u8; N],
 }
 
-// Writes the numbers of the slot that begins at the index at.
-pub(crate) fn put(store: &mut [u8], at: usize, ws: &[u8], vs: &[u64])
-    requires { (sized ws.now ≡ true) × (at + size ws.now ≤ length store.old) × Within ws.now vs.now }
-    ensures { store.new ≡ over at (packed ws.now vs.now) store.old }
-{
-    layout::put_fields(&mut store[at..], ws, vs);
-}
+impl<const N: usize> Slots<N> {
+    // Whether the mark of slot i says used: a look at one byte.
+    pub(crate) fn marked(&self, store: &[u8], i: usize) -> bool
+        requires { self.now.begin + i * self.now.size < length store.now }
+        ensures { result ≡ eqb (get_or store.now (self.now.begin + i * self.now.size) 0) 1 }
+    {
+        store[self.begin + i * self.size] == 1
+    }
 
-// Writes the mark of a slot in use and the values behind it at the front of numbers.
-pub(crate) fn mark(values: &[u64], vs: &mut [u64])
-    requires { length values.now < length vs.old }
-    ensures { vs.new ≡ over 0 (1 ∷ values.now) vs.old }
-{
-    vs[0] = 1;
-    layout::lay(values, vs, 1);
+    // The numbers of slot i: read quicker where seven bytes follow it.
+    pub(crate) fn numbers(&self, store: &[u8], i: usize) -> [u64; N]
+        requires handled { (sized self.now.widths ≡ true) × (size self.now.widths ≡ self.now.size) }
+        requires place { self.now.begin + i * self.now.size + self.now.size ≤ length store.now }
+        ensures { result ≡ fields self.now.widths (take (size self.now.widths) (drop (self.now.begin + i * self.now.size) store.now)) }
+    {
+        let rest = &store[self.begin + i * self.size..];
+        let spare = self.size + 7 <= rest.len();
+        let mut v = [0; N];
+        layout::take_fields(rest, &self.widths, &mut v, spare);
+        v
+    }
+
+    // Writes the numbers of slot i.
+    pub(crate) fn put(&self, store: &mut [u8], i: usize, v: &[u64; N])
+        requires handled { (sized self.now.widths ≡ true) × (size self.now.widths ≡ self.now.size) }
+        requires place { self.now.begin + i * self.now.size + self.now.size ≤ length store.old }
+        requires within { Within self.now.widths v.now }
+        ensures { store.new ≡ over (self.now.begin + i * self.now.size) (packed self.now.widths v.now) store.old }
+    {
+        let rest = &mut store[self.begin + i * self.size..];
+        layout::put_fields(rest, &self.widths, v);
+    }
 }
 
 // Whether all numbers are 0.
 pub(crate) fn blank(vs: &[u64]) -> bool
     ensures { result ≡ all_zero vs.now }
 {
-    let mut i = 0;
-    while i < vs.len() {
-        if vs[i] != 0 {
-            return false;
-        }
-        i += 1;
-    }
-    true
+    vs.iter().all(|v| *v == 0)
 }

@@ -1,6 +1,6 @@
 -- A number's digits have its value, are digits, and begin with 0 only for 0; a number of 64 bits has 20 at most.
 -- Assumes nothing.
-use Prim.Native.Nat.{ℕ, zero, suc, ◌+◌, ◌-◌, ◌*◌, ◌/◌, ◌^◌, ◌≤◌, ◌<◌}
+use Prim.Native.Nat.{ℕ, zero, suc, ◌+◌, ◌-◌, ◌*◌, ◌/◌, ◌^◌, ◌≤◌, ◌<◌, max}
 use mathlib.Core.Path.{◌≡◌, refl, sym, ap, subst, ◌∙◌}
 use mathlib.Core.Bool.{Bool, true, false}
 use mathlib.Core.List.{List, [], ◌∷◌, ◌++◌}
@@ -131,3 +131,24 @@ length_decimal (suc k) n h =
 -- a number of 64 bits
 pub length_count : (n : ℕ) → n < 2 ^ 64 → length (decimal n) ≤ 20
 length_count n h = length_decimal 19 n (omega arith)
+
+ten_pos : (k : ℕ) → 1 ≤ 10 ^ k
+ten_pos zero = omega arith
+ten_pos (suc k) =
+    let p : 10 ^ suc k ≡ 10 ^ k * 10 = pow-suc 10 k in
+    omega (arith, ten_pos k)
+
+-- a number from 10 ^ k on and below ten times that has k + 1 digits, and so has 0 with those below 10
+pub length_log : (k n : ℕ) → 10 ^ k ≤ n → n < 10 * 10 ^ k → length (decimal n) ≡ k + 1
+length_log zero n h l = length_one n (omega arith)
+length_log (suc k) n h l =
+    let p : 10 ^ suc k ≡ 10 ^ k * 10 = pow-suc 10 k in
+    let q = ten_pos k in
+    omega (arith, length_more n (omega arith), length_log k (n / 10) (omega arith) (omega arith))
+
+pub length_digits : (k n m : ℕ) → m ≡ max n 1 → 10 ^ k ≤ m → m < 10 * 10 ^ k → length (decimal n) ≡ k + 1
+length_digits zero n m e h l = length_one n (omega arith)
+length_digits (suc k) n m e h l =
+    let p : 10 ^ suc k ≡ 10 ^ k * 10 = pow-suc 10 k in
+    let q = ten_pos k in
+    length_log (suc k) n (omega arith) (omega arith)

@@ -3,13 +3,11 @@
 use Prim.Native.Nat.{ℕ, zero, suc, ◌+◌, ◌-◌, ◌/◌, ◌≤◌, ◌<◌}
 use mathlib.Core.Path.{◌≡◌, refl, sym, ap, ap₂, ◌∙◌}
 use mathlib.Core.List.{List, [], ◌∷◌, ◌++◌, append_assoc}
-use native.Mathlib.Nat.{add-zero}
-use native.Mathlib.Numerals.{add-one}
 use native.Mathlib.Omega.{arith}
-use lib.ListN.{length, get_or, take, drop, set, length-append, length-set}
-use lib.Seq.{drop-cons, drop-length, take-set-le, drop-set-lt, get_or-set_same}
+use lib.ListN.{length, take, drop, set, length-append, length-set}
+use lib.Seq.{drop-cons, take-set-le, drop-set-lt, get_or-set_same}
 use Rattle.layout.specs.Over.{over}
-use Rattle.layout.proofs.Writes.{over_none, over_cons, over_next, length_over}
+use Rattle.layout.proofs.Writes.{over_none, over_next, length_over}
 use Rattle.text.specs.Text.{digit, last_digits, written}
 
 -- ---- one text after another
@@ -115,21 +113,3 @@ decimal_put = digit_put last_digits (λ x. x / 10) digit (λ w x. refl) (λ x. r
 pub decimal_done : (s g : List ℕ) (at left x : ℕ) → left ≤ 0 → over at (last_digits left x) s ≡ g → s ≡ g
 unfolding last_digits
 decimal_done = digits_done last_digits (λ x. x / 10) digit (λ w x. refl) (λ x. refl)
-
--- `put_text`: one byte less is left
-pub text_start : (s t : List ℕ) (at : ℕ) → over (at + 0) (drop 0 t) s ≡ over at t s
-text_start s t at = ap (λ (k : ℕ). over k t s) (add-zero at)
-
-pub text_put : (s g t : List ℕ) (at i : ℕ) → i < length t → at + i < length s → over (at + i) (drop i t) s ≡ g
-    → over (at + (i + 1)) (drop (i + 1) t) (set s (at + i) (get_or t i 0)) ≡ g
-text_put s g t at i h l e =
-    let k : at + (i + 1) ≡ at + i + 1 = omega arith in
-    let d : drop i t ≡ get_or t i 0 ∷ drop (i + 1) t = rw (add-one, drop-cons t i 0) in
-    ap (λ (j : ℕ). over j (drop (i + 1) t) (set s (at + i) (get_or t i 0))) k
-    ∙ sym (over_cons (at + i) (get_or t i 0) (drop (i + 1) t) s l)
-    ∙ ap (λ (u : List ℕ). over (at + i) u s) (sym d) ∙ e
-
-pub text_done : (s g t : List ℕ) (at i : ℕ) → i ≡ length t → over (at + i) (drop i t) s ≡ g → s ≡ g
-text_done s g t at i h e =
-    sym (over_none (at + i) s)
-    ∙ ap (λ (u : List ℕ). over (at + i) u s) (sym (ap (λ (j : ℕ). drop j t) h ∙ drop-length t)) ∙ e

@@ -5,17 +5,11 @@
 ghost use Rattle.std.specs.Prelude.{◌≡◌, ◌+◌, ◌≤◌, length};
 ghost use Rattle.text.specs.Text.{decimal, last_digits, written};
 
-// How many digits x has.
+// How many digits x has, 0 one as well.
 fn digits(x: u64) -> usize
     ensures { result ≡ length (decimal x) }
 {
-    let mut n = 1;
-    let mut rest = x;
-    while 10 <= rest {
-        rest = rest / 10;
-        n += 1;
-    }
-    n
+    x.max(1).ilog10() as usize + 1
 }
 
 // Writes the last n digits of x from the place at on, the last of them first, and gives the place after them.
@@ -23,13 +17,11 @@ pub fn put_digits(out: &mut [u8], at: usize, n: usize, x: u64) -> usize
     requires { at + n ≤ length out.old }
     ensures { (result, out.new) ≡ written at (last_digits n x) out.old }
 {
-    let mut left = n;
     let mut rest = x;
-    while 0 < left {
-        left -= 1;
+    for left in (0..n).rev() {
         let b = 48 + rest % 10;
         out[at + left] = b as u8;
-        rest = rest / 10;
+        rest /= 10;
     }
     at + n
 }
@@ -48,10 +40,6 @@ pub fn put_text(out: &mut [u8], at: usize, text: &[u8]) -> usize
     requires { at + length text.now ≤ length out.old }
     ensures { (result, out.new) ≡ written at text.now out.old }
 {
-    let mut i = 0;
-    while i < text.len() {
-        out[at + i] = text[i];
-        i += 1;
-    }
+    out[at..at + text.len()].copy_from_slice(text);
     at + text.len()
 }

@@ -1,5 +1,6 @@
 -- What comes of a call, told as one result; that a refusal leaves what was there; and bytes that are written one by one.
 -- Assumes nothing.
+use Rattle.std.specs.Prelude.{Ok, Err}
 use Prim.Native.Nat.{ℕ, ◌/◌, ◌%◌, ◌≤◌, ◌<◌, min}
 use mathlib.Core.Path.{◌≡◌, refl, sym, ap, ap₂, ◌∙◌}
 use mathlib.Core.Logic.{◌≢◌}
@@ -14,25 +15,23 @@ use Rattle.layout.proofs.Bounds.{both}
 use Rattle.answer.specs.declared.Refusal.{Refusal}
 use Rattle.answer.specs.declared.Refusal.TheVariants.{Damaged, Field}
 use Rattle.road.specs.declared.Source.{Source}
-use Rattle.road.specs.declared.Verdict.{Verdict}
-use Rattle.road.specs.declared.Verdict.TheVariants.{Allowed, Refused}
+use Rattle.road.specs.Results.{Verdict}
 use Rattle.road.specs.Judge.{slot_verdict}
-use Rattle.index.specs.declared.Index.{Index}
+use Rattle.index.specs.Index.{Index}
 use Rattle.index.specs.Index.{lden_of, lnight_of}
 use Rattle.index.proofs.Laws.{Small, lden_small, lnight_small}
 use Rattle.store.specs.declared.Held.{Held}
 use Rattle.store.specs.Store.{last_receiver, Book, HeldStands, SoundBook, damaged, book_of}
 use Rattle.store.proofs.Laws.{sound_book}
-use Rattle.calls.specs.declared.Answer.{Answer}
-use Rattle.calls.specs.declared.Answer.TheVariants as answer
+use Rattle.calls.specs.Calls.{Answer}
+use Rattle.calls.specs.declared.Reply.TheVariants as answer
 use Rattle.calls.specs.Calls.{Step, refuse, tell, change, allow, from_used, refusal_in, told, on_store, clear_store, ask_receiver}
-use Rattle.request.specs.declared.Told.{Told}
-use Rattle.request.specs.declared.Told.TheVariants as reading
+use Rattle.request.specs.Record.{Told}
 use Rattle.request.specs.Record.{read_of, extent_of}
 use Rattle.history.specs.History.{Call, Clear, accepted, perform}
 use Rattle.history.proofs.Theorems.{of_this_book}
 use Rattle.service.specs.declared.Deed.{Deed}
-use Rattle.service.specs.declared.Outcome.{Outcome}
+use Rattle.service.specs.Service.{Outcome}
 use Rattle.service.specs.Service.{call_of, slot_told, outcome_of, outcome_refusal, answer_told, done_to}
 use Rattle.viewer.specs.Viewer.{result_of, lastly, unless_refused, cleared, applied, word, indices_in, tell_in, answered, asked}
 
@@ -46,9 +45,9 @@ unless none s t f = refl
 unless (some why) s t f = ap (λ (x : List ℕ). (result_of (some why), x)) (f why refl)
 
 not_accepted : (a : Answer) (why : Refusal) → refusal_in a ≡ some why → accepted a ≡ false
-not_accepted answer.Done why e = absurd (let z : ◌≡◌ {A = ℕ} 0 1 = cc in omega arith)
-not_accepted (answer.Levels d n) why e = absurd (let z : ◌≡◌ {A = ℕ} 0 1 = cc in omega arith)
-not_accepted (answer.Refused r) why e = refl
+not_accepted (Ok answer.Done) why e = absurd (let z : ◌≡◌ {A = ℕ} 0 1 = cc in omega arith)
+not_accepted (Ok (answer.Levels d n)) why e = absurd (let z : ◌≡◌ {A = ℕ} 0 1 = cc in omega arith)
+not_accepted (Err r) why e = refl
 
 call_leaves : (c : Call) (s : List ℕ) → Leaves (refusal_in (perform c s).0) s (perform c s).1
 call_leaves c s why e = of_this_book.refused_leaves c s (not_accepted (perform c s).0 why e)
@@ -65,21 +64,21 @@ of_clear s t a x e r =
 -- ---- apply
 
 same_refusal : (slot : ℕ) (a : Answer) → outcome_refusal (outcome_of slot a) ≡ refusal_in a
-same_refusal slot answer.Done = refl
-same_refusal slot (answer.Levels d n) = refl
-same_refusal slot (answer.Refused why) = refl
+same_refusal slot (Ok answer.Done) = refl
+same_refusal slot (Ok (answer.Levels d n)) = refl
+same_refusal slot (Err why) = refl
 
 refuse_leaves : (why : Refusal) (s : List ℕ) → (on_store (λ (b : Book). refuse why) s).1 ≡ s
 unfolding on_store
 refuse_leaves why s = go (damaged s)
   where
-    go : (t : Bool) → (cond {A = Answer × List ℕ} t (answer.Refused Damaged, s) (answer.Refused why, s)).1 ≡ s
+    go : (t : Bool) → (cond {A = Answer × List ℕ} t (Err Damaged, s) (Err why, s)).1 ≡ s
     go true = refl
     go false = refl
 
 told_leaves : (t : Told) (x : Source) (s : List ℕ) → Leaves (refusal_in (answer_told t x s).0) s (answer_told t x s).1
-told_leaves (reading.Request c) x s = call_leaves (call_of c x) s
-told_leaves (reading.Refused r) x s = λ why e. refuse_leaves r s
+told_leaves (Ok c) x s = call_leaves (call_of c x) s
+told_leaves (Err r) x s = λ why e. refuse_leaves r s
 
 done_leaves : (bytes s : List ℕ) → Leaves (outcome_refusal (done_to bytes s).0.outcome) s (done_to bytes s).1
 unfolding done_to
@@ -135,7 +134,7 @@ same_ask i b = go (dec_lt i 65535)
 
 ask_step : (f g : Book → Step) (s : List ℕ) → f (book_of s) ≡ g (book_of s) → on_store f s ≡ on_store g s
 unfolding on_store
-ask_step f g s e = ap (λ (k : Step). cond (damaged s) (answer.Refused Damaged, s) (told s k)) e
+ask_step f g s e = ap (λ (k : Step). cond (damaged s) (Err Damaged, s) (told s k)) e
 
 -- the book is asked for slot k, and answers a
 pub same_answer : (i k : ℕ) (s : List ℕ) (a : Answer) → k ≡ min i 65535 → (a, s) ≡ on_store (ask_receiver k) s → a ≡ answered i s
@@ -151,9 +150,9 @@ of_ask i k s out t a b x l e f r = r ∙ ap (tell_in out) (sym f ∙ same_answer
 
 -- an ask is refused, or tells two indices, which are small
 abbrev pub Tells : Answer → Type 0
-Tells answer.Done = ⊥
-Tells (answer.Levels den night) = Small den × Small night
-Tells (answer.Refused why) = Unit {0}
+Tells (Ok answer.Done) = ⊥
+Tells (Ok (answer.Levels den night)) = Small den × Small night
+Tells (Err why) = Unit {0}
 
 abbrev StepTells : Step → Type 0
 StepTells (refuse why) = Unit {0}
@@ -161,10 +160,10 @@ StepTells (tell a) = Tells a
 StepTells (change b) = ⊥
 
 past_verdict : (v : Verdict) (k : Step) → StepTells k → StepTells (allow v k)
-past_verdict Allowed k t = t
-past_verdict (Refused why) k t = tt
+past_verdict (Ok tt) k t = t
+past_verdict (Err why) k t = tt
 
-held_tells : (x : Held) → HeldStands x → Tells (answer.Levels (lden_of x.sums.day x.sums.evening x.sums.night) (lnight_of x.sums.night))
+held_tells : (x : Held) → HeldStands x → Tells (Ok (answer.Levels (lden_of x.sums.day x.sums.evening x.sums.night) (lnight_of x.sums.night)))
 held_tells x h =
     let a = both _ _ h.1 in
     let b = both _ _ a.0 in
@@ -174,13 +173,13 @@ held_tells x h =
     (lden_small x.sums.day x.sums.evening x.sums.night day evening night, lnight_small x.sums.night night)
 
 seat_tells : (o : Option Held) → ((x : Held) → o ≡ some x → HeldStands x)
-    → StepTells (from_used o (λ x. tell (answer.Levels (lden_of x.sums.day x.sums.evening x.sums.night) (lnight_of x.sums.night))))
+    → StepTells (from_used o (λ x. tell (Ok (answer.Levels (lden_of x.sums.day x.sums.evening x.sums.night) (lnight_of x.sums.night)))))
 seat_tells none h = tt
 seat_tells (some x) h = held_tells x (h x refl)
 
 step_tells : (i : ℕ) (b : Book) → SoundBook b → StepTells (ask_receiver i b)
 unfolding ask_receiver
-step_tells i b sound = past_verdict (slot_verdict last_receiver i Allowed) _ (seat_tells (get_or b.receivers i none) (sound.receivers_stand i))
+step_tells i b sound = past_verdict (slot_verdict last_receiver i (Ok tt)) _ (seat_tells (get_or b.receivers i none) (sound.receivers_stand i))
 
 told_tells : (s : List ℕ) (k : Step) → StepTells k → Tells (told s k).0
 told_tells s (refuse why) t = t
@@ -191,7 +190,7 @@ pub ask_tells : (i : ℕ) (s : List ℕ) → Tells (answered i s)
 unfolding on_store
 ask_tells i s = go (damaged s) refl
   where
-    go : (t : Bool) → damaged s ≡ t → Tells (cond {A = Answer × List ℕ} t (answer.Refused Damaged, s) (told s (ask_receiver i (book_of s)))).0
+    go : (t : Bool) → damaged s ≡ t → Tells (cond {A = Answer × List ℕ} t (Err Damaged, s) (told s (ask_receiver i (book_of s)))).0
     go true e = tt
     go false e = told_tells s (ask_receiver i (book_of s)) (step_tells i (book_of s) (sound_book s e))
 
@@ -206,14 +205,14 @@ four (p ∷ q ∷ r ∷ []) a b c d e = absurd (omega arith)
 four (p ∷ q ∷ r ∷ s ∷ x ∷ l) a b c d e = absurd (omega arith)
 
 module _ (den night : Index) (out : List ℕ) where
-  pub not_written : (x : ℕ) → length out ≢ 4 → x ≡ result_of (lastly true none) → (x, out) ≡ tell_in out (answer.Levels den night)
+  pub not_written : (x : ℕ) → length out ≢ 4 → x ≡ result_of (lastly true none) → (x, out) ≡ tell_in out (Ok (answer.Levels den night))
   not_written x h e = rw (ne_eqb (length out) 4 h) (ap (λ (n : ℕ). (n, out)) e)
 
-  pub all_told : length out ≡ 4 → (result_of none, indices_in (answer.Levels den night)) ≡ tell_in out (answer.Levels den night)
+  pub all_told : length out ≡ 4 → (result_of none, indices_in (Ok (answer.Levels den night))) ≡ tell_in out (Ok (answer.Levels den night))
   all_told h = rw (eq-eqb (length out) 4 h) refl
 
   pub all_written : (m n x : ℕ) → length out ≡ 4 → m ≡ word den → n ≡ word night → x ≡ result_of (lastly false none)
-      → (x, set (set (set (set out 0 (m % 256)) 1 (m / 256 % 256)) 2 (n % 256)) 3 (n / 256 % 256)) ≡ tell_in out (answer.Levels den night)
+      → (x, set (set (set (set out 0 (m % 256)) 1 (m / 256 % 256)) 2 (n % 256)) 3 (n / 256 % 256)) ≡ tell_in out (Ok (answer.Levels den night))
   all_written m n x h e f r =
       ap₂ (λ (k : ℕ) (s : List ℕ). (k, s)) r
       (four out _ _ _ _ h ∙ ap₂ (λ (a b : ℕ). a % 256 ∷ a / 256 % 256 ∷ b % 256 ∷ b / 256 % 256 ∷ []) e f)

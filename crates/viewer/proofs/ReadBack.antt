@@ -1,5 +1,6 @@
 -- A caller reads back what was told: number and place, since no place reaches 1024, and the two indices, since none reaches 65535.
 -- Assumes nothing.
+use Rattle.std.specs.Prelude.{Ok, Some, None}
 use Prim.Native.Nat.{ℕ, ◌<◌}
 use mathlib.Core.Path.{◌≡◌, refl, sym, ap, subst, ◌∙◌}
 use mathlib.Core.Logic.{⊎_elim}
@@ -11,10 +12,9 @@ use lib.Dec.{eqb}
 use lib.ListN.{length}
 use Rattle.answer.specs.declared.Refusal.{Refusal}
 use Rattle.answer.specs.Table.{place_by}
-use Rattle.index.specs.declared.Index.{Index}
-use Rattle.index.specs.declared.Index.TheVariants.{Quiet, Tenths}
+use Rattle.index.specs.Index.{Index}
 use Rattle.index.proofs.Laws.{Small}
-use Rattle.calls.specs.declared.Answer.TheVariants as answer
+use Rattle.calls.specs.declared.Reply.TheVariants as answer
 use Rattle.calls.specs.Calls.{refusal_in, clear_store}
 use Rattle.history.specs.History.{Clear, Ask}
 use Rattle.history.proofs.Theorems.{of_this_book}
@@ -61,19 +61,19 @@ of_ask slot store out =
 -- ---- the indices
 
 word_small : (x : Index) → Small x → word x < 65536
-word_small Quiet h = omega arith
-word_small (Tenths n) h = omega arith
+word_small None h = omega arith
+word_small (Some n) h = omega arith
 
-below_quiet : (x : Index) (n : ℕ) → Small x → x ≡ Tenths n → n < word Quiet
+below_quiet : (x : Index) (n : ℕ) → Small x → x ≡ Some n → n < word None
 below_quiet x n h e = let k = subst Small e h in omega (arith, k)
 
-tells_levels : (den night : Index) → Small den → Small night → TellsLevels (indices_in (answer.Levels den night)) den night
+tells_levels : (den night : Index) → Small den → Small night → TellsLevels (indices_in (Ok (answer.Levels den night))) den night
 tells_levels den night a b =
     let d = word_small den a in
     let n = word_small night b in
     record { first = omega (arith, d); second = omega (arith, n); not_quiet = λ k. ⊎_elim (below_quiet den k a) (below_quiet night k b) }
 
-levels : (slot : ℕ) (store out : List ℕ) (den night : Index) → length out ≡ 4 → answered slot store ≡ answer.Levels den night
+levels : (slot : ℕ) (store out : List ℕ) (den night : Index) → length out ≡ 4 → answered slot store ≡ Ok (answer.Levels den night)
     → TellsLevels (asked slot store out).1 den night
 unfolding asked
 levels slot store out den night l e =

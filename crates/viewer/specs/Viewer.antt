@@ -1,14 +1,13 @@
 -- The book as a program in C calls it (METHOD 10): what each call returns, and the store or the output as it then is, for any bytes lent.
 -- Book and reader say what is refused; here that comes to one number, and 2 is last of all.
-use Rattle.std.specs.Prelude.{ℕ, suc, ◌+◌, ◌*◌, ◌/◌, ◌%◌, ◌<◌, ◌≡◌, ◌⊎◌, Bool, true, false, not, List, [], ◌∷◌, ◌++◌, length, get_or, eqb, ltb}
+use Rattle.std.specs.Prelude.{ℕ, suc, ◌+◌, ◌*◌, ◌/◌, ◌%◌, ◌<◌, ◌≡◌, ◌⊎◌, Bool, true, false, not, List, [], ◌∷◌, ◌++◌, length, get_or, eqb, ltb, Ok, Err, Some, None}
 use Rattle.std.proofs.Math.Option.{Option, none, some}
 use Rattle.answer.specs.declared.Refusal.{Refusal}
 use Rattle.answer.specs.declared.Refusal.TheVariants.{CutShort}
 use Rattle.answer.specs.Table.{number_by, place_by}
-use Rattle.index.specs.declared.Index.{Index}
-use Rattle.index.specs.declared.Index.TheVariants.{Quiet, Tenths}
-use Rattle.calls.specs.declared.Answer.{Answer}
-use Rattle.calls.specs.declared.Answer.TheVariants as answer
+use Rattle.index.specs.Index.{Index}
+use Rattle.calls.specs.Calls.{Answer}
+use Rattle.calls.specs.declared.Reply.TheVariants as answer
 use Rattle.calls.specs.Calls.{refusal_in, on_store, clear_store, ask_receiver}
 use Rattle.request.specs.Record.{extent_of}
 use Rattle.service.specs.Service.{outcome_refusal, done_to}
@@ -57,14 +56,14 @@ low_first n = n % 256 ∷ n / 256 % 256 ∷ []
 
 -- an index as a number: in tenths of a dB, or 65535 for quiet
 abbrev pub word : Index → ℕ
-word Quiet = 65535
-word (Tenths n) = n
+word None = 65535
+word (Some n) = n
 
 -- L_DEN, then L_Night; no ask is answered without them
 abbrev pub indices_in : Answer → List ℕ
-indices_in (answer.Levels den night) = low_first (word den) ++ low_first (word night)
-indices_in answer.Done = []
-indices_in (answer.Refused why) = []
+indices_in (Ok (answer.Levels den night)) = low_first (word den) ++ low_first (word night)
+indices_in (Ok answer.Done) = []
+indices_in (Err why) = []
 
 -- what is refused of an ask: what the book refuses, and then an output that has not four bytes
 abbrev pub unasked : List ℕ → Answer → Option Refusal
@@ -101,12 +100,12 @@ TellsApart result why = (number_from result ≡ number_by why) × (place_from re
 pub record TellsLevels (out : List ℕ) (den night : Index) : Type 0 where
   pub first : word_at 0 out ≡ word den
   pub second : word_at 2 out ≡ word night
-  pub not_quiet : (n : ℕ) → (den ≡ Tenths n) ⊎ (night ≡ Tenths n) → n < word Quiet
+  pub not_quiet : (n : ℕ) → (den ≡ Some n) ⊎ (night ≡ Some n) → n < word None
 
 -- for any bytes at all
 pub record ReadBack : Type 0 where
   pub of_clear : (store : List ℕ) → TellsApart (cleared store).0 (refusal_in (clear_store store).0)
   pub of_apply : (bytes store : List ℕ) → TellsApart (applied bytes store).0 (barred bytes store)
   pub of_ask : (slot : ℕ) (store out : List ℕ) → TellsApart (asked slot store out).0 (unasked out (answered slot store))
-  pub levels : (slot : ℕ) (store out : List ℕ) (den night : Index) → length out ≡ 4 → answered slot store ≡ answer.Levels den night
+  pub levels : (slot : ℕ) (store out : List ℕ) (den night : Index) → length out ≡ 4 → answered slot store ≡ Ok (answer.Levels den night)
       → TellsLevels (asked slot store out).1 den night

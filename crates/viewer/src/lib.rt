@@ -3,16 +3,16 @@
 // What each returns and leaves is a definition of specs/Viewer.antt, for any bytes lent; no call requires anything.
 #![tactic(auto)]
 
-ghost use Rattle.std.specs.Prelude.{◌≡◌, min};
+ghost use Rattle.std.specs.Prelude.{◌≡◌, min, Ok};
 ghost use Rattle.std.proofs.Math.Option.{none, some};
 ghost use Rattle.service.specs.Service.{outcome_refusal, done_to};
-ghost use Rattle.calls.specs.declared.Answer.TheVariants.{Levels};
+ghost use Rattle.calls.specs.declared.Reply.TheVariants.{Levels};
 ghost use Rattle.calls.specs.Calls.{refusal_in};
 ghost use Rattle.viewer.specs.Viewer.{result_of, lastly, cleared, applied, asked, word, tell_in};
 
 use answer::Refusal;
-use book::Answer;
-use clerk::Outcome;
+use book::{Answer, Reply};
+use clerk::{Outcome, Report};
 use index::Index;
 
 // What quiet is as a number, and how many bytes an output has.
@@ -44,9 +44,8 @@ fn of_answer(answer: Answer) -> u32
     ensures { result ≡ result_of (refusal_in answer) }
 {
     match answer {
-        Answer::Done => 0,
-        Answer::Levels(_, _) => 0,
-        Answer::Refused(why) => refused(why),
+        Ok(_) => 0,
+        Err(why) => refused(why),
     }
 }
 
@@ -55,9 +54,8 @@ fn of_outcome(outcome: Outcome, more: bool) -> u32
     ensures { result ≡ result_of (lastly more (outcome_refusal outcome)) }
 {
     match outcome {
-        Outcome::Done => at_last(more),
-        Outcome::Levels(_, _, _) => at_last(more),
-        Outcome::Refused(why) => refused(why),
+        Ok(_) => at_last(more),
+        Err(why) => refused(why),
     }
 }
 
@@ -76,7 +74,7 @@ fn trial(store: &[u8], record: &[u8]) -> Outcome
     ensures { result ≡ (done_to «record».now store.now).0.outcome }
 {
     if store.len() != store::LENGTH {
-        return Outcome::Refused(Refusal::Damaged);
+        return Err(Refusal::Damaged);
     }
     let mut copy = [0u8; store::LENGTH];
     copy.copy_from_slice(store);
@@ -102,25 +100,19 @@ pub fn ngoretaiwhe_apply(store: &mut [u8], record: &[u8]) -> u32
 fn slot_of(number: usize) -> u16
     ensures { result ≡ min number 65535 }
 {
-    if number < 65535 {
-        return number as u16;
-    }
-    65535
+    u16::try_from(number).unwrap_or(u16::MAX)
 }
 
 // An index as a number.
 fn word_of(level: Index) -> u32
     ensures { result ≡ word level }
 {
-    match level {
-        Index::Quiet => QUIET,
-        Index::Tenths(tenths) => tenths,
-    }
+    level.unwrap_or(QUIET)
 }
 
 // Writes two indices into an output of four bytes.
 fn write_indices(out: &mut [u8], den: Index, night: Index) -> u32
-    ensures { (result, out.new) ≡ tell_in out.old (Levels den night) }
+    ensures { (result, out.new) ≡ tell_in out.old (Ok (Levels den night)) }
 {
     if out.len() != OUTPUT {
         return at_last(true);
@@ -139,8 +131,8 @@ pub fn ngoretaiwhe_ask(store: &[u8], slot: usize, out: &mut [u8]) -> u32
     ensures { (result, out.new) ≡ asked slot store.now out.old }
 {
     match book::ask(store, slot_of(slot)) {
-        Answer::Levels(den, night) => write_indices(out, den, night),
-        Answer::Done => 0,
-        Answer::Refused(why) => refused(why),
+        Ok(Reply::Levels(den, night)) => write_indices(out, den, night),
+        Ok(Reply::Done) => 0,
+        Err(why) => refused(why),
     }
 }

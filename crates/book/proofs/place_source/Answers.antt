@@ -1,17 +1,17 @@
 -- `place_source` looks for damage first, then answers as the inner call does. Assumes nothing.
-use mathlib.Core.Path.{sym, ◌∙◌}
+use mathlib.Core.Path.{◌∙◌}
+use Rattle.std.proofs.lemmas.Result.{err_from_is_err_and}
 use Rattle.calls.specs.Calls.{place_source}
-use Rattle.calls.proofs.Entries.{on_damaged, on_sound}
+use Rattle.calls.proofs.Entries.{on_damaged, on_sound, whole_is}
 use Rattle.book.proofs.place_source.Goals as goal
 
-pub returns-then-damaged : goal.returns-then-damaged
-returns-then-damaged c =
-    on_damaged (place_source c.args.slot c.args.s) c.args.store.now (sym c.damaged.ensures ∙ c.if-damaged.true)
+pub returns-in_err-sound : goal.returns-in_err-sound
+returns-in_err-sound c =
+    let p = err_from_is_err_and c.from_residual.result c.from_residual.ensures.1 in
+    rw (p.1, p.2) (on_damaged (place_source c.args.slot c.args.s) c.args.store.now _ c.in_err-sound.ensures)
 
 pub place_source-requires : goal.place_source-requires
-place_source-requires c = (c.steps-steps.ensures, sym c.damaged.ensures ∙ c.if-damaged.false)
+place_source-requires c = whole_is _ c.in_ok-sound.ensures
 
 pub returns : goal.returns
-returns c =
-    c.place_source.ensures.0
-    ∙ on_sound (place_source c.args.slot c.args.s) c.args.store.now (sym c.damaged.ensures ∙ c.if-damaged.false)
+returns c = c.place_source.ensures.0 ∙ on_sound (place_source c.args.slot c.args.s) c.args.store.now (whole_is _ c.in_ok-sound.ensures)

@@ -13,11 +13,11 @@ use Rattle.codec.proofs.extent.Goals as goal
 pub returns-then-bytes-job : goal.returns-then-bytes-job
 returns-then-bytes-job c =
     let e : c.shape_of-bytes.result.bytes ≡ length_of c.args.job.now =
-    ap (λ (x : Shape). x.bytes) c.shape_of-bytes.ensures ∙ ap (λ (k : ℕ). size (layout_of k)) c.kind_of-kind.ensures in
+    ap (λ (x : Shape). x.bytes) c.shape_of-bytes.ensures ∙ ap (λ (k : ℕ). size (layout_of k)) c.kind_of.ensures in
     e ∙ extent_whole c.args.job.now (omega arith)
 
-pub returns : goal.returns
-returns c =
+pub returns-else-bytes-job : goal.returns-else-bytes-job
+returns-else-bytes-job c =
     let e : c.shape_of-bytes.result.bytes ≡ length_of c.args.job.now =
-    ap (λ (x : Shape). x.bytes) c.shape_of-bytes.ensures ∙ ap (λ (k : ℕ). size (layout_of k)) c.kind_of-kind.ensures in
+    ap (λ (x : Shape). x.bytes) c.shape_of-bytes.ensures ∙ ap (λ (k : ℕ). size (layout_of k)) c.kind_of.ensures in
     extent_none c.args.job.now (omega arith)

@@ -5,10 +5,10 @@ use borrow.Author.Tests.{lt-ltb, le-ltb}
 use Rattle.road.specs.Emission.{gradient_term}
 use Rattle.emission.proofs.gradient.Goals as goal
 
-pub returns-then-steep-gt50 : goal.returns-then-steep-gt50
+pub returns-then-counts : goal.returns-then-counts
 unfolding gradient_term
-returns-then-steep-gt50 c = simp (lt-ltb 50 (c.args.g % 128) (omega arith))
+returns-then-counts c = simp (lt-ltb 50 (c.args.g % 128) (omega arith)) (omega arith)
 
-pub returns : goal.returns
+pub returns-else-counts : goal.returns-else-counts
 unfolding gradient_term
-returns c = simp (le-ltb 50 (c.args.g % 128) (omega arith))
+returns-else-counts c = simp (le-ltb 50 (c.args.g % 128) (omega arith))

@@ -1,8 +1,8 @@
 -- `reflection` reads table 7. Assumes nothing.
-use mathlib.Core.Path.{refl}
-use Rattle.road.specs.Emission.{reflection_term}
+use lib.ListN.{get_or}
+use Rattle.road.specs.Emission.{reflection_table, reflection_term}
 use Rattle.emission.proofs.reflection.Goals as goal
 
 pub returns : goal.returns
 unfolding reflection_term
-returns c = refl
+returns c = λ i. get_or reflection_table (c.from.ensures i) 0

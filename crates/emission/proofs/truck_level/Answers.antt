@@ -8,22 +8,22 @@ use Rattle.road.proofs.Bounds as bounds
 use Rattle.emission.proofs.truck_level.Goals as goal
 
 pub overflow_mul-square : goal.overflow_mul-square
-overflow_mul-square c = omega (arith, (fifth c.args.u c.requires.1 c.requires.2).two)
+overflow_mul-square c = omega (arith, (fifth c.args.u c.requires.0 c.requires.1).two)
 
 pub overflow_mul-cube : goal.overflow_mul-cube
-overflow_mul-cube c = omega (arith, (fifth c.args.u c.requires.1 c.requires.2).three)
+overflow_mul-cube c = omega (arith, (fifth c.args.u c.requires.0 c.requires.1).three)
 
 pub overflow_mul-fourth : goal.overflow_mul-fourth
-overflow_mul-fourth c = omega (arith, (fifth c.args.u c.requires.1 c.requires.2).four)
+overflow_mul-fourth c = omega (arith, (fifth c.args.u c.requires.0 c.requires.1).four)
 
 pub overflow_mul-fifth : goal.overflow_mul-fifth
-overflow_mul-fifth c = omega (arith, (fifth c.args.u c.requires.1 c.requires.2).five)
+overflow_mul-fifth c = omega (arith, (fifth c.args.u c.requires.0 c.requires.1).five)
 
 pub lv-requires : goal.lv-requires
-lv-requires c = let b = fifth c.args.u c.requires.1 c.requires.2 in (c.requires.0, b.some, omega (arith, b.five))
+lv-requires c = let b = fifth c.args.u c.requires.0 c.requires.1 in (b.some, omega (arith, b.five))
 
 pub overflow_add-result : goal.overflow_add-result
-overflow_add-result c = omega (arith, c.lv.ensures, bounds.truck_level_lem c.args.u c.requires.1 c.requires.2)
+overflow_add-result c = omega (arith, c.lv.ensures, bounds.truck_level_lem c.args.u c.requires.0 c.requires.1)
 
 pub returns : goal.returns
 unfolding truck_level

@@ -1,23 +1,25 @@
 -- `walls` adds up to its most for walls that reflect and for those that absorb. Assumes nothing.
+use mathlib.Core.Path.{◌≡◌, ◌∙◌}
+use Prim.Native.Nat.{ℕ, ◌*◌, ◌/◌, min}
 use native.Mathlib.Omega.{arith}
-use borrow.Author.Tests.{eq-eqb, ne_eqb}
 use Rattle.road.specs.Reach.{walls_term}
+use borrow.Author.Tests.{ne_eqb}
 use Rattle.emission.proofs.walls.Goals as goal
 
-pub nonzero_div-high : goal.nonzero_div-high
-nonzero_div-high c = c.requires (λ e. omega arith)
+-- the smaller of two numbers, in either order
+least : (a b : ℕ) → min a b ≡ min b a
+least a b = omega arith
 
-pub returns-then-kind-eq1 : goal.returns-then-kind-eq1
+pub returns-in-1 : goal.returns-in-1
 unfolding walls_term
-returns-then-kind-eq1 c = simp (eq-eqb _ 1 c.if-kind-eq1.true) c.least.ensures
+returns-in-1 c =
+    rw c.in-1.is (c.min.ensures ∙ (λ i. min (400 * c.from-high.ensures i / c.from-wide.ensures i) 320) ∙ least _ 320)
 
-pub nonzero_div-high-then-kind-eq2 : goal.nonzero_div-high-then-kind-eq2
-nonzero_div-high-then-kind-eq2 c = c.requires (λ e. omega arith)
-
-pub returns-then-kind-eq2 : goal.returns-then-kind-eq2
+pub returns-in-2 : goal.returns-in-2
 unfolding walls_term
-returns-then-kind-eq2 c = simp (ne_eqb _ 1 c.if-kind-eq1.false, eq-eqb _ 2 c.if-kind-eq2.true) c.least-then-kind-eq2.ensures
+returns-in-2 c =
+    rw c.in-2.is (c.min-in-2.ensures ∙ (λ i. min (200 * c.from-high.ensures i / c.from-wide.ensures i) 160) ∙ least _ 160)
 
-pub returns : goal.returns
+pub returns-in_default : goal.returns-in_default
 unfolding walls_term
-returns c = simp (ne_eqb _ 1 c.if-kind-eq1.false, ne_eqb _ 2 c.if-kind-eq2.false)
+returns-in_default c = simp (ne_eqb c.args.kind 1 (λ e. omega arith), ne_eqb c.args.kind 2 (λ e. omega arith))

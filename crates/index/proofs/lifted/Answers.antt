@@ -6,7 +6,7 @@ use Rattle.index.proofs.Laws.{level_small}
 use Rattle.index.proofs.lifted.Goals as goal
 
 pub raised-requires : goal.raised-requires
-raised-requires c = (c.requires.0, omega (arith, ap level_in c.level.ensures, level_small c.args.sum c.requires.1), c.requires.2)
+raised-requires c = (omega (arith, ap level_in c.level.ensures, level_small c.args.sum c.requires.0), c.requires.1)
 
 pub returns : goal.returns
 returns c = c.raised.ensures ∙ ap (lift c.args.addition) c.level.ensures

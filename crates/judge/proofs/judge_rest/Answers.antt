@@ -1,78 +1,57 @@
--- `judge_rest` refuses the first field after the course that is outside its limits, then a slow surface, then a quiet truck.
--- Assumes nothing.
--- the verdict once no field is outside
-use mathlib.Core.Path.{◌≡◌, refl, sym, ap, ◌∙◌}
-use mathlib.Core.Bool.{Bool, true, false, ◌&&◌, cond}
-use Prim.Native.Nat.{ℕ, ◌≤◌}
-use native.Mathlib.Omega.{arith}
-use lib.Dec.{leb}
-use borrow.Author.Tests.{leb-true, le-leb}
-use Rattle.layout.specs.Bounds.{first_outside}
-use Rattle.answer.specs.declared.Refusal.TheVariants.{Field, SlowSurface, QuietTruck}
+-- The fields after the course are judged by their rows, then surface and speed, then the trucks.
+use Rattle.std.specs.Prelude.{ℕ, Bool, true, false, cond, List, Ok, Err, ◌≡◌, refl}
+use Rattle.std.proofs.Common.{sym, ◌∙◌}
+use Rattle.std.proofs.lemmas.Result.{err_from_is_err_and}
+use Rattle.answer.specs.declared.Refusal.TheVariants.{SlowSurface, QuietTruck}
 use Rattle.road.specs.declared.Source.{Source}
-use Rattle.road.specs.declared.Verdict.{Verdict}
-use Rattle.road.specs.declared.Verdict.TheVariants.{Allowed, Refused}
-use Rattle.road.specs.Emission.{car_speed}
-use Rattle.road.specs.Fields.{source_table}
-use Rattle.road.specs.Judge.{outside_by, slow_surface, quiet_truck, rest_verdict}
-use Rattle.road.proofs.Judged.{outside, inside}
+use Rattle.road.specs.Results.{Verdict}
+use Rattle.road.specs.Fields.{source_table, values_by}
+use Rattle.road.specs.Judge.{unless_outside, slow_surface, quiet_truck, rest_verdict}
+use Rattle.road.proofs.Judged.{fields_after, first_allows, first_refuses}
+use Rattle.fields.specs.declared.Row.{Row}
+use Rattle.fields.specs.Rows.{rows_of}
+use Rattle.judge.specs.Rows.{judged}
+use Rattle.judge.proofs.Rows.{by_rows}
 use Rattle.judge.proofs.judge_rest.Goals as goal
 
+-- the verdict once no field is outside
 abbrev rest : Source → Verdict
-rest s = cond (slow_surface s) (Refused SlowSurface) (cond (quiet_truck s) (Refused QuietTruck) Allowed)
+rest s = cond (slow_surface s) (Err SlowSurface) (cond (quiet_truck s) (Err QuietTruck) (Ok tt))
 
--- the first of the two tests that holds
-choose : (s : Source) (a b : Bool) → slow_surface s ≡ a → quiet_truck s ≡ b
-    → cond a (Refused SlowSurface) (cond b (Refused QuietTruck) Allowed) ≡ rest s
-choose s a b e f = sym (λ i. cond (e i) (Refused SlowSurface) (cond (f i) (Refused QuietTruck) Allowed))
+-- what is told of the fields
+first : (s : Source) (rs : List Row) (vs : List ℕ) (r : Verdict) → r ≡ judged rs vs → rs ≡ rows_of source_table s → vs ≡ values_by source_table s
+    → unless_outside source_table s (Ok tt) ≡ r
+first s rs vs r f g h = sym (f ∙ (λ i. judged (g i) (h i)) ∙ by_rows source_table s)
 
--- what the test of surface and speed tells, and what makes the surface slow
-tested : (k v n : ℕ) → (leb 5 k && leb v n) ≡ true → (5 ≤ k) × (v ≤ n)
-tested k v n e = go (leb 5 k) (leb v n) refl refl e
-  where
-    go : (a b : Bool) → leb 5 k ≡ a → leb v n ≡ b → (a && b) ≡ true → (5 ≤ k) × (v ≤ n)
-    go true true f g h = (leb-true 5 k f, leb-true v n g)
-    go true false f g h = absurd (let z : ◌≡◌ {A = ℕ} 0 1 = cc in omega arith)
-    go false b f g h = absurd (let z : ◌≡◌ {A = ℕ} 0 1 = cc in omega arith)
-
-slow_at : (k v : ℕ) → 5 ≤ k → v ≤ 60 → (leb 5 k && leb v 60) ≡ true
-slow_at k v h l = rw (le-leb 5 k h, le-leb v 60 l)
-
-pub returns-then-at-lt-SOURCE_ROWS : goal.returns-then-at-lt-SOURCE_ROWS
+-- where they are allowed the two tests decide
+second : (s : Source) (a b : Bool) → unless_outside source_table s (Ok tt) ≡ Ok tt → slow_surface s ≡ a → quiet_truck s ≡ b
+    → cond a (Err SlowSurface) (cond b (Err QuietTruck) (Ok tt)) ≡ rest_verdict s
 unfolding rest_verdict
-returns-then-at-lt-SOURCE_ROWS c =
-    let e : c.first_outside-at.result ≡ outside_by source_table c.args.s =
-    c.first_outside-at.ensures
-    ∙ (λ i. first_outside (c.source_least-least.ensures i) (c.source_most-most.ensures i) (c.source_values-values.ensures i)) in
-    ap (λ (n : ℕ). Refused (Field n)) c.source_number-number.ensures
-    ∙ outside source_table c.args.s (rest c.args.s) c.first_outside-at.result e c.if-at-lt-SOURCE_ROWS.true
+second s a b h e f =
+    sym (first_allows _ (rest s) _ (fields_after source_table s (rest s)) h ∙ (λ i. cond (e i) (Err SlowSurface) (cond (f i) (Err QuietTruck) (Ok tt))))
 
-pub returns-then-s-within : goal.returns-then-s-within
+pub returns-in_err-judged : goal.returns-in_err-judged
 unfolding rest_verdict
-returns-then-s-within c =
-    let e : c.first_outside-at.result ≡ outside_by source_table c.args.s =
-    c.first_outside-at.ensures
-    ∙ (λ i. first_outside (c.source_least-least.ensures i) (c.source_most-most.ensures i) (c.source_values-values.ensures i)) in
-    let t = tested c.args.s.surface c.within.result _ c.if-s-within.true in
-    let slow : slow_surface c.args.s ≡ true = slow_at c.args.s.surface (car_speed c.args.s.car) t.0 (omega (arith, t.1, c.within.ensures)) in
-    choose c.args.s true (quiet_truck c.args.s) slow refl ∙ inside source_table c.args.s (rest c.args.s) c.first_outside-at.result e c.if-at-lt-SOURCE_ROWS.false
+returns-in_err-judged c =
+    let s = c.args.s in
+    let h = first s c.source_rows.result c.source_values.result c.judged.result c.judged.ensures c.source_rows.ensures c.source_values.ensures ∙ c.in_err-judged.was in
+    let p = err_from_is_err_and c.from_residual.result c.from_residual.ensures.1 in
+    rw (p.1, p.2) (sym (first_refuses _ (rest s) _ _ (fields_after source_table s (rest s)) h))
+
+pub returns-then-slow_surface : goal.returns-then-slow_surface
+returns-then-slow_surface c =
+    let s = c.args.s in
+    let h = first s c.source_rows.result c.source_values.result c.judged.result c.judged.ensures c.source_rows.ensures c.source_values.ensures ∙ c.in_ok-judged.was in
+    second s true (quiet_truck s) h (sym c.slow_surface.ensures ∙ c.if-slow_surface.true) refl
 
 pub returns-then-quiet_truck : goal.returns-then-quiet_truck
-unfolding rest_verdict
 returns-then-quiet_truck c =
-    let e : c.first_outside-at.result ≡ outside_by source_table c.args.s =
-    c.first_outside-at.ensures
-    ∙ (λ i. first_outside (c.source_least-least.ensures i) (c.source_most-most.ensures i) (c.source_values-values.ensures i)) in
-    let slow : slow_surface c.args.s ≡ false = ap (λ (x : ℕ). leb 5 c.args.s.surface && leb x 60) (sym c.within.ensures) ∙ c.if-s-within.false in
-    let quiet : quiet_truck c.args.s ≡ true = sym c.quiet_truck.ensures ∙ c.if-quiet_truck.true in
-    choose c.args.s false true slow quiet ∙ inside source_table c.args.s (rest c.args.s) c.first_outside-at.result e c.if-at-lt-SOURCE_ROWS.false
+    let s = c.args.s in
+    let h = first s c.source_rows.result c.source_values.result c.judged.result c.judged.ensures c.source_rows.ensures c.source_values.ensures ∙ c.in_ok-judged.was in
+    second s false true h (sym c.slow_surface.ensures ∙ c.if-slow_surface.false) (sym c.quiet_truck.ensures ∙ c.if-quiet_truck.true)
 
 pub returns : goal.returns
-unfolding rest_verdict
 returns c =
-    let e : c.first_outside-at.result ≡ outside_by source_table c.args.s =
-    c.first_outside-at.ensures
-    ∙ (λ i. first_outside (c.source_least-least.ensures i) (c.source_most-most.ensures i) (c.source_values-values.ensures i)) in
-    let slow : slow_surface c.args.s ≡ false = ap (λ (x : ℕ). leb 5 c.args.s.surface && leb x 60) (sym c.within.ensures) ∙ c.if-s-within.false in
-    let quiet : quiet_truck c.args.s ≡ false = sym c.quiet_truck.ensures ∙ c.if-quiet_truck.false in
-    choose c.args.s false false slow quiet ∙ inside source_table c.args.s (rest c.args.s) c.first_outside-at.result e c.if-at-lt-SOURCE_ROWS.false
+    let s = c.args.s in
+    let h = first s c.source_rows.result c.source_values.result c.judged.result c.judged.ensures c.source_rows.ensures c.source_values.ensures ∙ c.in_ok-judged.was in
+    second s false false h (sym c.slow_surface.ensures ∙ c.if-slow_surface.false) (sym c.quiet_truck.ensures ∙ c.if-quiet_truck.false)

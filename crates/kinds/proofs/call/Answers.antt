@@ -92,4 +92,4 @@ returns-in-9 c = ap (λ (k : ℕ). call_in k c.args.v.now) (sym c.in-9.is)
 
 pub returns-in_default : goal.returns-in_default
 returns-in_default c =
-    sym (ask_else c.args.kind (at c.args.v.now 1) (drop 2 c.args.v.now) c.in_default.in_default-own.rest.0.0.0.0.0.0.0.1 c.in_default.in_default-own.rest.0.0.0.0.0.0.1 c.in_default.in_default-own.rest.0.0.0.0.0.1 c.in_default.in_default-own.rest.0.0.0.0.1 c.in_default.in_default-own.rest.0.0.0.1 c.in_default.in_default-own.rest.0.0.1 c.in_default.in_default-own.rest.0.1 c.in_default.in_default-own.rest.1)
+    sym (ask_else c.args.kind (at c.args.v.now 1) (drop 2 c.args.v.now) (λ e. omega arith) (λ e. omega arith) (λ e. omega arith) (λ e. omega arith) (λ e. omega arith) (λ e. omega arith) (λ e. omega arith) (λ e. omega arith))

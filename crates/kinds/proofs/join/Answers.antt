@@ -1,20 +1,16 @@
--- `join` copies the fields after kind and slot. After i rounds the first i of them stand there, and zeros after them.
+-- `join` lays the fields behind kind and slot.
 -- Assumes nothing.
-use mathlib.Core.Path.{refl}
-use native.Mathlib.Omega.{arith}
+use Rattle.std.specs.Prelude.{ℕ, [], ◌∷◌}
+use Rattle.std.proofs.Common.{ap, ◌∙◌}
 use lib.ListN.{replicate}
-use Rattle.request.proofs.Laws.{joined_more, joined_all}
+use Rattle.layout.specs.Over.{over}
+use Rattle.request.specs.Inner.{filled}
+use Rattle.request.proofs.Laws.{filled_more}
 use Rattle.kinds.proofs.join.Goals as goal
 
-pub loop-i-init : goal.loop-i-init
-loop-i-init c = (omega arith, refl)
-
-pub loop-i-preserved : goal.loop-i-preserved
-loop-i-preserved c = (
-  omega arith,
-  joined_more c.args.kind c.args.slot c.args.fields.now (replicate 23 0) c.loop-i.v c.loop-i.i (omega arith) (omega arith) c.loop-i.invariant.1,
-)
-
 pub returns : goal.returns
+unfolding filled
 returns c =
-    joined_all c.args.kind c.args.slot c.args.fields.now c.loop-i.v c.loop-i.i (omega arith) c.loop-i.invariant.1
+    c.lay.ensures
+    ∙ ap (λ (n : ℕ). over 2 c.args.fields.now (c.args.kind ∷ n ∷ replicate 23 0)) c.from.ensures
+    ∙ filled_more (c.args.kind ∷ c.args.slot ∷ []) c.args.fields.now

@@ -2,6 +2,7 @@
 -- Assumes nothing.
 use Prim.Native.Nat.{ℕ}
 use mathlib.Core.Path.{sym, ap, ◌∙◌, subst}
+use native.Mathlib.Omega.{arith}
 use lib.ListN.{drop}
 use Rattle.layout.specs.Layout.{Within}
 use Rattle.request.specs.Kinds.{layout_of, source_in}
@@ -31,4 +32,4 @@ returns-in-7 c = c.ends_source.ensures ∙ ap (λ (k : ℕ). source_in k c.args.
 
 pub returns-in_default : goal.returns-in_default
 returns-in_default c =
-    c.blank.ensures ∙ sym (blank_else c.args.kind (drop 2 c.args.v.now) c.in_default.in_default-own.rest.0.0.1 c.in_default.in_default-own.rest.0.1 c.in_default.in_default-own.rest.1)
+    c.blank.ensures ∙ sym (blank_else c.args.kind (drop 2 c.args.v.now) (λ e. omega arith) (λ e. omega arith) (λ e. omega arith))

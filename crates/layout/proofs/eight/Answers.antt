@@ -1,7 +1,7 @@
--- `eight` meets its contract: four bytes above four. Assumes nothing.
+-- `eight` meets its contract: bytes read at once are bytes read one by one.
+use Rattle.std.proofs.Common.{◌∙◌}
 use Rattle.layout.proofs.Turns.{number_eight}
 use Rattle.layout.proofs.eight.Goals as goal
 
 pub returns : goal.returns
-returns c =
-    number_eight c.args.s.now c.args.at _ _ c.requires c.four-high.ensures.0 c.four-low.ensures.0
+returns c = c.from_be_bytes.ensures ∙ number_eight c.args.s.now c.args.at c.requires

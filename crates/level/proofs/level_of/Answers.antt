@@ -20,11 +20,11 @@ again s k h e = ap (λ (n : ℕ). 2000 + n) e ∙ level_hundredth s (omega arith
 
 pub walk-requires : goal.walk-requires
 walk-requires c =
-    (c.requires.0, c.requires.1, low c.args.energy c.requires.1 (omega arith))
+    (c.requires, low c.args.energy c.requires (omega arith))
 
 pub walk-requires-2 : goal.walk-requires-2
 walk-requires-2 c =
-    (c.requires.0, omega arith, high c.args.energy (omega arith) c.ranges.energy.fits)
+    (omega arith, high c.args.energy (omega arith) c.ranges.energy.fits)
 
 pub overflow_add-result : goal.overflow_add-result
 overflow_add-result c =

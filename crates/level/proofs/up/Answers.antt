@@ -13,25 +13,25 @@ last s l e h b q a =
     omega arith
 
 pub loop-level-init : goal.loop-level-init
-loop-level-init c = c.requires.2
+loop-level-init c = c.requires.1
 
 pub overflow_add-level : goal.overflow_add-level
-overflow_add-level c = omega (arith, c.loop-level.invariant, c.requires.3)
+overflow_add-level c = omega (arith, c.loop-level.invariant, c.requires.2)
 
 pub energy-requires : goal.energy-requires
-energy-requires c = (c.requires.0, omega (arith, c.loop-level.invariant, c.requires.3))
+energy-requires c = (omega (arith, c.loop-level.invariant, c.requires.2))
 
 pub overflow_add-level-in-loop-level : goal.overflow_add-level-in-loop-level
-overflow_add-level-in-loop-level c = omega (arith, c.loop-level.invariant, c.requires.3)
+overflow_add-level-in-loop-level c = omega (arith, c.loop-level.invariant, c.requires.2)
 
 pub loop-level-smaller : goal.loop-level-smaller
 loop-level-smaller c =
-    omega (arith, level_at_least c.args.sum (c.loop-level.level + 1) c.energy.result c.requires.1 c.energy.ensures (omega arith))
+    omega (arith, level_at_least c.args.sum (c.loop-level.level + 1) c.energy.result c.requires.0 c.energy.ensures (omega arith))
 
 pub loop-level-preserved : goal.loop-level-preserved
 loop-level-preserved c =
-    level_at_least c.args.sum (c.loop-level.level + 1) c.energy.result c.requires.1 c.energy.ensures (omega arith)
+    level_at_least c.args.sum (c.loop-level.level + 1) c.energy.result c.requires.0 c.energy.ensures (omega arith)
 
 pub returns : goal.returns
 returns c =
-    last c.args.sum c.loop-level.level c.energy.result c.requires.1 c.loop-level.invariant c.energy.ensures (omega arith)
+    last c.args.sum c.loop-level.level c.energy.result c.requires.0 c.loop-level.invariant c.energy.ensures (omega arith)

@@ -11,11 +11,11 @@ use Rattle.machine.proofs.feed.Goals as goal
 
 pub returns-then-x : goal.returns-then-x
 returns-then-x c =
-    (feed_stopped c.args.over c.args.x c.args.held.now c.args.store.now c.args.out.now c.if-x.true, c.requires.1)
+    (feed_stopped c.args.over c.args.x c.args.held.now c.args.store.now c.args.out.now c.if-x.true, c.requires.0)
 
 pub loop-count-init : goal.loop-count-init
 loop-count-init c =
-    (going_begun c.args.over c.args.x.count c.args.held.now c.args.store.now c.args.out.now c.requires.1, refl)
+    (going_begun c.args.over c.args.x.count c.args.held.now c.args.store.now c.args.out.now c.requires.0, refl)
 
 pub overflow_sub-held : goal.overflow_sub-held
 overflow_sub-held c = c.loop-count.invariant.0.used_within
@@ -26,12 +26,12 @@ overflow_sub-out c = c.loop-count.invariant.0.wrote_within
 pub overflow_add-count : goal.overflow_add-count
 overflow_add-count c =
     let p = ready_parts c.args.over (length c.args.held.now - c.loop-count.used) (length c.loop-count.out - c.loop-count.wrote) (sym c.ready.ensures ∙ c.loop-count-test.true) in
-    record { fits = omega (arith, c.loop-count.invariant.0.count_within, p.0, c.requires.2) }
+    record { fits = omega (arith, c.loop-count.invariant.0.count_within, p.0, c.requires.1) }
 
 pub enter-entry-requires : goal.enter-entry-requires
 enter-entry-requires c =
     let p = ready_parts c.args.over (length c.args.held.now - c.loop-count.used) (length c.loop-count.out - c.loop-count.wrote) (sym c.ready.ensures ∙ c.loop-count-test.true) in
-    (c.requires.0, c.loop-count.invariant.0.sound, c.loop-count.invariant.0.used_within, omega (arith, p.1, c.loop-count.invariant.0.wrote_within))
+    (c.loop-count.invariant.0.sound, c.loop-count.invariant.0.used_within, omega (arith, p.1, c.loop-count.invariant.0.wrote_within))
 
 pub shape_of-store-then-entry-eq0 : goal.shape_of-store-then-entry-eq0
 shape_of-store-then-entry-eq0 c =
@@ -55,7 +55,7 @@ returns-then-entry-eq0 c =
 
 pub overflow_add-used : goal.overflow_add-used
 overflow_add-used c =
-    record { fits = omega (arith, c.enter-entry.ensures.extent_within, c.loop-count.invariant.0.used_within, length-drop c.loop-count.used c.args.held.now, c.requires.2) }
+    record { fits = omega (arith, c.enter-entry.ensures.extent_within, c.loop-count.invariant.0.used_within, length-drop c.loop-count.used c.args.held.now, c.requires.1) }
 
 pub loop-count-smaller : goal.loop-count-smaller
 loop-count-smaller c =

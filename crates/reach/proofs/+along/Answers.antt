@@ -7,9 +7,7 @@ use Prim.Native.Nat.{ℕ, ◌+◌, ◌-◌, ◌≤◌, ◌<◌}
 use native.Mathlib.Omega.{arith}
 use Rattle.course.specs.declared.Piece.{Piece}
 use Rattle.course.specs.declared.Ends.{Ends}
-use Rattle.course.specs.declared.Lengths.{Lengths}
 use Rattle.course.specs.Course.{square, length_of, one_piece, too_long, long, pieces_between, Mapped}
-use Rattle.screen.specs.Screen.{walls_of}
 use Rattle.road.specs.declared.Receiver.{Receiver}
 use Rattle.road.specs.Limits.{longest}
 use Rattle.road.specs.Pairs.{Mild}
@@ -48,12 +46,12 @@ below t e h g same k is most =
 pub plan-requires : goal.plan-requires
 plan-requires t c =
     let f = piece c.args.e c.args.whole c.requires.mapped in
-    let g = fit_receiver c.args.r c.requires.steps_value.2 in
+    let g = fit_receiver c.args.r c.requires.fits.1 in
     (f.x, f.y, g.x, g.y)
 
 pub space-q-requires : goal.space-q-requires
 space-q-requires t c =
-    let g = fit_receiver c.args.r c.requires.steps_value.2 in
+    let g = fit_receiver c.args.r c.requires.fits.1 in
     (omega (arith, c.plan.ensures, plan_most c.args.whole c.args.r (piece c.args.e c.args.whole c.requires.mapped) g), omega (arith, g.low), omega (arith, g.high))
 
 pub too_long-requires : goal.too_long-requires
@@ -61,8 +59,8 @@ too_long-requires t c = omega (arith, (piece c.args.e c.args.whole c.requires.ma
 
 -- ---- a road that is cut
 
-pub lengths_of-lengths-requires : goal.lengths_of-lengths-requires
-lengths_of-lengths-requires t c =
+pub lengths_of-first_length-requires : goal.lengths_of-first_length-requires
+lengths_of-first_length-requires t c =
     let is = sym (tested c.args.e c.args.whole c.args.r _ _ _ c.requires.mapped.1 c.plan.ensures c.space-q.ensures c.too_long.ensures) ∙ c.if-too_long.true in (
       subst⁻¹ Mapped c.first_half-first.ensures (first_halved c.args.r c.args.e is c.requires.mapped.0).mapped,
       subst⁻¹ Mapped c.second_half-second.ensures (second_halved c.args.r c.args.e is c.requires.mapped.0).mapped,
@@ -72,32 +70,32 @@ pub whole-requires : goal.whole-requires
 whole-requires t c =
     let is = sym (tested c.args.e c.args.whole c.args.r _ _ _ c.requires.mapped.1 c.plan.ensures c.space-q.ensures c.too_long.ensures) ∙ c.if-too_long.true in (
       subst⁻¹ Mapped c.first_half-first.ensures (first_halved c.args.r c.args.e is c.requires.mapped.0).mapped,
-      ap (λ (l : Lengths). l.first) c.lengths_of-lengths.ensures,
+      ap (λ (l : ℕ × ℕ). l.0) c.lengths_of-first_length.ensures,
     )
 
 pub along-a-requires : goal.along-a-requires
 along-a-requires t c =
     let is = sym (tested c.args.e c.args.whole c.args.r _ _ _ c.requires.mapped.1 c.plan.ensures c.space-q.ensures c.too_long.ensures) ∙ c.if-too_long.true in
     let b = below t c.args.e _ _ c.first_half-first.ensures (first_halved c.args.r c.args.e is c.requires.mapped.0) c.decreases c.requires.mapped.3 in
-    (b.0, (c.requires.steps_value, (b.1.0, c.whole.ensures, b.1.1, b.1.2)))
+    (b.0, (c.requires.fits, (b.1.0, c.whole.ensures, b.1.1, b.1.2)))
 
 pub whole-requires-then-too_long : goal.whole-requires-then-too_long
 whole-requires-then-too_long t c =
     let is = sym (tested c.args.e c.args.whole c.args.r _ _ _ c.requires.mapped.1 c.plan.ensures c.space-q.ensures c.too_long.ensures) ∙ c.if-too_long.true in (
       subst⁻¹ Mapped c.second_half-second.ensures (second_halved c.args.r c.args.e is c.requires.mapped.0).mapped,
-      ap (λ (l : Lengths). l.second) c.lengths_of-lengths.ensures,
+      ap (λ (l : ℕ × ℕ). l.1) c.lengths_of-first_length.ensures,
     )
 
 pub along-b-requires : goal.along-b-requires
 along-b-requires t c =
     let is = sym (tested c.args.e c.args.whole c.args.r _ _ _ c.requires.mapped.1 c.plan.ensures c.space-q.ensures c.too_long.ensures) ∙ c.if-too_long.true in
     let b = below t c.args.e _ _ c.second_half-second.ensures (second_halved c.args.r c.args.e is c.requires.mapped.0) c.decreases c.requires.mapped.3 in
-    (b.0, (c.requires.steps_value, (b.1.0, c.whole-then-too_long.ensures, b.1.1, b.1.2)))
+    (b.0, (c.requires.fits, (b.1.0, c.whole-then-too_long.ensures, b.1.1, b.1.2)))
 
 pub join-requires : goal.join-requires
 join-requires t c =
-    let f = share_by (walls_of c.args.walls.now) c.args.voices c.args.r in
-    let two = two_walls (walls_of c.args.walls.now) c.args.r in
+    let f = share_by c.args.walls.now c.args.voices c.args.r in
+    let two = two_walls c.args.walls.now c.args.r in
     let x : Mild c.along-a.result = subst⁻¹ Mild c.along-a.ensures (over_bounded f two c.args.r (pieces_between (far c.args.r) c.first_half-first.result)) in
     let y : Mild c.along-b.result = subst⁻¹ Mild c.along-b.ensures (over_bounded f two c.args.r (pieces_between (far c.args.r) c.second_half-second.result)) in
     (search (x, y), search (x, y))
@@ -105,8 +103,8 @@ join-requires t c =
 pub returns-then-too_long : goal.returns-then-too_long
 returns-then-too_long t c =
     let is = sym (tested c.args.e c.args.whole c.args.r _ _ _ c.requires.mapped.1 c.plan.ensures c.space-q.ensures c.too_long.ensures) ∙ c.if-too_long.true in
-    let f = share_by (walls_of c.args.walls.now) c.args.voices c.args.r in
-    let two = two_walls (walls_of c.args.walls.now) c.args.r in
+    let f = share_by c.args.walls.now c.args.voices c.args.r in
+    let two = two_walls c.args.walls.now c.args.r in
     let u = c.along-a.ensures ∙ ap (λ (x : Ends). pair_over f two c.args.r (pieces_between (far c.args.r) x)) c.first_half-first.ensures in
     let v = c.along-b.ensures ∙ ap (λ (x : Ends). pair_over f two c.args.r (pieces_between (far c.args.r) x)) c.second_half-second.ensures in
     c.join.ensures ∙ ap₂ joined u v ∙ sym (over_cut c.args.r c.args.e f two is)
@@ -116,7 +114,7 @@ returns-then-too_long t c =
 pub length-length-requires : goal.length-length-requires
 length-length-requires t c =
     let f = piece c.args.e c.args.whole c.requires.mapped in
-    (c.requires.steps_value.0, f.some, f.short)
+    (f.some, f.short)
 
 pub alone-requires-clause-x_le_coordinate : goal.alone-requires-clause-x_le_coordinate
 alone-requires-clause-x_le_coordinate t c =
@@ -126,6 +124,6 @@ alone-requires-clause-x_le_coordinate t c =
 pub returns : goal.returns
 returns t c =
     let is = sym (tested c.args.e c.args.whole c.args.r _ _ _ c.requires.mapped.1 c.plan.ensures c.space-q.ensures c.too_long.ensures) ∙ c.if-too_long.false in
-    let f = share_by (walls_of c.args.walls.now) c.args.voices c.args.r in
-    let two = two_walls (walls_of c.args.walls.now) c.args.r in
+    let f = share_by c.args.walls.now c.args.voices c.args.r in
+    let two = two_walls c.args.walls.now c.args.r in
     c.alone.ensures ∙ ap (λ (p : Piece). pair_over f two c.args.r (p ∷ [])) c.requires.mapped.1 ∙ sym (over_uncut c.args.r c.args.e f two is)

@@ -10,11 +10,11 @@ use Rattle.reach.proofs.way.Goals as goal
 
 pub overflow_add-down : goal.overflow_add-down
 overflow_add-down c =
-    omega (arith, c.lv.ensures, lv_small c.args.q c.requires.1 (omega arith))
+    omega (arith, c.lv.ensures, lv_small c.args.q c.requires.0 (omega arith))
 
 pub overflow_add-down-2 : goal.overflow_add-down-2
 overflow_add-down-2 c =
-    omega (arith, c.lv.ensures, lv_small c.args.q c.requires.1 (omega arith), c.obstacle.ensures, obstacle_most c.args.h c.args.r c.args.screening c.requires.6)
+    omega (arith, c.lv.ensures, lv_small c.args.q c.requires.0 (omega arith), c.obstacle.ensures, obstacle_most c.args.h c.args.r c.args.screening c.requires.5)
 
 pub returns : goal.returns
 unfolding distance_term obstacle_term

@@ -1,28 +1,28 @@
 -- `weather` takes off what lies beyond ten heights of the ray. Assumes nothing.
-use Prim.Native.Nat.{ℕ, ◌-◌, ◌*◌, ◌≤◌}
+use mathlib.Core.Path.{◌≡◌, ap, ◌∙◌}
+use mathlib.Core.Bool.{cond}
+use Prim.Native.Nat.{ℕ, ◌-◌, ◌*◌, ◌/◌, ◌≤◌, ◌<◌}
+use lib.Dec.{leb}
+use native.Mathlib.Decide.{dec_le}
 use native.Mathlib.Omega.{arith}
 use borrow.Author.Tests.{le-leb, lt-leb}
-use native.Mathlib.Nat.{div-le_self}
+use Rattle.std.proofs.Math.Nat.{zero-div}
 use Rattle.road.specs.Reach.{weather_term}
 use Rattle.road.proofs.Bounds.{times}
 use Rattle.reach.proofs.weather.Goals as goal
 
--- what lies beyond, times the period's number, is small
-small : (c near h : ℕ) → c ≤ 1000 → near ≤ 1000000 → c * (near - 10 * h) ≤ 1000000000
-small c near h a b = times c (near - 10 * h) 1000 1000000 a (omega arith)
+-- nothing lies beyond a root that is no longer than the heights
+none_beyond : (c near heights : ℕ) → near ≤ heights → c * (near - heights) / near ≡ 0
+none_beyond c near heights h = let e : c * (near - heights) ≡ 0 = omega (arith, times c (near - heights) c 0 (omega arith) (omega arith)) in ap (λ (n : ℕ). n / near) e ∙ zero-div near
 
-pub returns-then-near-h : goal.returns-then-near-h
-unfolding weather_term
-returns-then-near-h c = simp (le-leb c.args.near (10 * c.args.h) (omega arith))
-
-pub overflow_mul-beyond-2 : goal.overflow_mul-beyond-2
-overflow_mul-beyond-2 c =
-    omega (arith, small c.args.c c.args.near c.args.h c.requires.0 c.requires.3)
-
-pub overflow_cast-result : goal.overflow_cast-result
-overflow_cast-result c =
-    omega (arith, small c.args.c c.args.near c.args.h c.requires.0 c.requires.3, div-le_self (c.args.c * (c.args.near - 10 * c.args.h)) c.args.near)
+beyond_is : (c near heights : ℕ) → c * (near - heights) / near ≡ cond (leb near heights) 0 (c * (near - heights) / near)
+beyond_is c near heights = go (dec_le near heights)
+  where
+    go : Dec (near ≤ heights) → c * (near - heights) / near ≡ cond (leb near heights) 0 (c * (near - heights) / near)
+    go (yes h) = rw (le-leb near heights h) (none_beyond c near heights h)
+    go (no h) = let l : heights < near = omega arith in simp (lt-leb near heights l)
 
 pub returns : goal.returns
 unfolding weather_term
-returns c = simp (lt-leb c.args.near (10 * c.args.h) (omega arith))
+returns c =
+    ap (λ (n : ℕ). c.args.c * n / c.args.near) c.saturating_sub-beyond.ensures ∙ beyond_is c.args.c c.args.near (10 * c.args.h)

@@ -6,18 +6,6 @@ use lib.Count.{count_leading_zeros, leading_le}
 use Rattle.root.proofs.Pairs.{pairs_is, room_one, zeros_room, zeros_place}
 use Rattle.root.proofs.highest.Goals as goal
 
-pub overflow_cast-result : goal.overflow_cast-result
-overflow_cast-result c = record { fits = omega (arith, leading_le 64 c.args.q) }
-
-pub overflow_shr-result : goal.overflow_shr-result
-overflow_shr-result c = omega (arith, leading_le 64 c.args.q)
-
-pub overflow_cast-result-2 : goal.overflow_cast-result-2
-overflow_cast-result-2 c = record { fits = omega (arith, leading_le 64 c.args.q) }
-
-pub overflow_shr-result-2 : goal.overflow_shr-result-2
-overflow_shr-result-2 c = omega (arith, leading_le 64 c.args.q)
-
 pub returns : goal.returns
 returns c =
     let z : ℕ = count_leading_zeros 64 c.args.q / 2 in

@@ -10,9 +10,6 @@ loop-place-init c = stands_first c.args.q c.args.q _ (le_refl c.args.q) c.ranges
 pub step-line-requires : goal.step-line-requires
 step-line-requires c = stands_fits _ _ _ (omega (arith, c.loop-place-test.true)) c.loop-place.invariant c.ranges.q.fits
 
-pub loop-place-smaller : goal.loop-place-smaller
-loop-place-smaller c = omega (arith, c.loop-place-test.true)
-
 pub loop-place-preserved : goal.loop-place-preserved
 loop-place-preserved c = rw c.step-line.ensures (stands_next _ _ _ (omega (arith, c.loop-place-test.true)) c.loop-place.invariant)
 

@@ -5,4 +5,4 @@ use Rattle.root.proofs.root.Goals as goal
 
 pub returns : goal.returns
 unfolding root_of
-returns c = let h = root_is c.args.q in rw c.last_line-line.ensures (h.at_most, h.above)
+returns c = let h = root_is c.args.q in rw c.last_line.ensures (h.at_most, h.above)

@@ -1,9 +1,10 @@
 -- `meet` looks at one wall after the other. Assumes nothing.
-use Rattle.screen.proofs.Lists.{Going}
+use mathlib.Core.Path.{◌≡◌}
+use lib.ListN.{take}
+use Rattle.std.specs.List.{fold}
+use Rattle.screen.specs.declared.Met.TheVariants.{Nothing}
+use Rattle.screen.specs.Screen.{look_at}
 use Rattle.screen.proofs.meet.Given as goal
 
-abbrev pub invariant-loop-left : goal.invariant-loop-left
-invariant-loop-left l = Going l.p l.r l.walls l.at l.left l.met
-
-abbrev pub decreases-loop-left : goal.decreases-loop-left
-decreases-loop-left l = l.left
+abbrev pub invariant-loop-w : goal.invariant-loop-w
+invariant-loop-w l = l.met ≡ fold (look_at l.p l.r) Nothing (take l.w-index l.walls)

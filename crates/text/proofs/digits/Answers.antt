@@ -1,14 +1,7 @@
--- `digits` counts one digit for each tenth part that is taken, up to the first below 10.
--- Assumes nothing.
-use native.Mathlib.Omega.{arith}
-use Rattle.text.proofs.Decimal.{length_one, length_more, length_count}
+-- `digits` gives one more than the logarithm; 0 has one digit, as 1 has.
+use Rattle.std.proofs.Common.{sym}
+use Rattle.text.proofs.Decimal.{length_digits}
 use Rattle.text.proofs.digits.Goals as goal
 
-pub overflow_add-n : goal.overflow_add-n
-overflow_add-n c = omega (arith, length_count c.args.x c.ranges.x.fits, c.loop-rest.invariant)
-
-pub loop-rest-preserved : goal.loop-rest-preserved
-loop-rest-preserved c = omega (arith, length_more c.loop-rest.rest (omega arith), c.loop-rest.invariant)
-
 pub returns : goal.returns
-returns c = omega (arith, length_one c.loop-rest.rest (omega arith), c.loop-rest.invariant)
+returns c = sym (length_digits c.ilog10.result c.args.x _ c.max.ensures c.ilog10.ensures.power_le c.ilog10.ensures.next_power_gt)

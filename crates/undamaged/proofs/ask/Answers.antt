@@ -1,24 +1,21 @@
 -- `ask` judges the slot first. Assumes nothing.
-use mathlib.Core.Path.{sym, ap, ◌∙◌}
-use native.Mathlib.Omega.{arith}
-use Rattle.road.specs.declared.Verdict.{Verdict}
-use Rattle.road.specs.declared.Verdict.TheVariants.{Allowed}
+use Rattle.std.specs.Prelude.{Ok}
+use mathlib.Core.Path.{refl, ◌∙◌}
+use Rattle.std.proofs.lemmas.Result.{err_from_is_err_and}
 use Rattle.store.specs.Store.{last_receiver, book_of}
-use Rattle.calls.specs.Calls.{told, allow, indices_at, ask_receiver}
-use Rattle.road.proofs.Judged.{slot_allowed}
+use Rattle.calls.specs.Calls.{indices_at, ask_receiver}
+use Rattle.undamaged.proofs.Judged.{slot_refused, all_allowed}
 use Rattle.undamaged.proofs.ask.Goals as goal
 
-pub indices-requires : goal.indices-requires
-indices-requires c =
-    (c.requires.0, c.requires.1, omega (arith, (slot_allowed last_receiver c.args.slot Allowed (sym c.judge_slot.ensures ∙ c.in-Allowed.is)).0))
-
-pub returns-in-Refused : goal.returns-in-Refused
+pub returns-in_err-judge_slot : goal.returns-in_err-judge_slot
 unfolding ask_receiver
-returns-in-Refused c =
-    ap (λ (v : Verdict). told c.args.store.now (allow v (indices_at c.args.slot (book_of c.args.store.now)))) (sym c.in-Refused.is ∙ c.judge_slot.ensures)
+returns-in_err-judge_slot c =
+    let p = err_from_is_err_and c.from_residual.result c.from_residual.ensures.1 in
+    let s = c.args.store.now in
+    rw (p.1, p.2) (slot_refused s last_receiver c.args.slot (Ok tt) (indices_at c.args.slot (book_of s)) _ c.in_err-judge_slot.ensures)
 
-pub returns-in-Allowed : goal.returns-in-Allowed
+pub returns : goal.returns
 unfolding ask_receiver
-returns-in-Allowed c =
-    c.indices.ensures
-    ∙ ap (λ (v : Verdict). told c.args.store.now (allow v (indices_at c.args.slot (book_of c.args.store.now)))) (sym c.in-Allowed.is ∙ c.judge_slot.ensures)
+returns c =
+    let s = c.args.store.now in
+    c.indices.ensures ∙ all_allowed s last_receiver c.args.slot (Ok tt) (indices_at c.args.slot (book_of s)) c.in_ok-judge_slot.ensures refl

@@ -1,38 +1,38 @@
 -- `leave_receiver` makes a used slot all zero. Assumes nothing.
--- what a withdrawal says of a slot
-use borrow.Author.Tests.{not-true, not-false}
-use mathlib.Core.Path.{sym, ap, ◌∙◌}
+use Rattle.std.specs.Prelude.{Ok}
+use mathlib.Core.Path.{refl, sym, ap, ◌∙◌}
 use Prim.Native.Nat.{ℕ}
 use mathlib.Core.List.{List}
-use mathlib.Core.Option.{Option, none}
-use lib.ListN.{set}
+use mathlib.Core.Option.{none}
+use lib.ListN.{get_or, set}
 use Rattle.store.specs.declared.Held.{Held}
-use Rattle.store.specs.Store.{book, book_of}
-use Rattle.store.proofs.Laws.{undamaged, set_held}
-use Rattle.calls.specs.declared.Answer.{Answer}
-use Rattle.calls.specs.declared.Answer.TheVariants.{Done}
-use Rattle.calls.specs.Calls.{change, told, from_used}
-use Rattle.ledger.proofs.Entries.{seat_free, seat_used}
+use Rattle.store.specs.Slots.{entry}
+use Rattle.store.specs.Store.{Book, book, book_of}
+use Rattle.store.proofs.Laws.{undamaged, seat_is, set_held}
+use Rattle.calls.specs.declared.Reply.TheVariants.{Done}
+use Rattle.calls.specs.Calls.{Step, change}
+use Rattle.undamaged.proofs.Judged.{is_free, is_used}
 use Rattle.undamaged.proofs.leave_receiver.Goals as goal
 
-out : List ℕ → ℕ → Option Held → Answer × List ℕ
-out s j o = told s (from_used o (λ (x : Held). change (book (book_of s).sources (set (book_of s).receivers j none) (book_of s).walls)))
+-- the book without the receiver
+abbrev without : Book → ℕ → Step
+without b j = change (book b.sources (set b.receivers j none) b.walls)
 
-pub seat-seat-requires : goal.seat-seat-requires
-seat-seat-requires c = (c.requires.1, (undamaged c.args.store.now c.requires.0).0)
+pub seat-requires : goal.seat-requires
+seat-requires c = (c.requires.1, (undamaged c.args.store.now c.requires.0).0)
 
-pub returns-then-not-seat : goal.returns-then-not-seat
-unfolding out
-returns-then-not-seat c =
-    let free = seat_free c.args.store.now c.args.j c.requires.0 c.requires.1 c.seat-seat.result c.seat-seat.ensures (not-true _ c.if-not-seat.true) in
-    ap (out c.args.store.now c.args.j) (sym free)
+pub returns-then-is_none : goal.returns-then-is_none
+returns-then-is_none c =
+    let s = c.args.store.now in
+    is_free s (get_or (book_of s).receivers c.args.j none) (λ (x : Held). without (book_of s) c.args.j) c.seat.result
+    (seat_is s c.args.j c.requires.0 c.requires.1 ∙ ap entry (sym c.seat.ensures)) c.if-is_none.ensures
 
 pub drop_held-requires : goal.drop_held-requires
 drop_held-requires c = (c.requires.1, (undamaged c.args.store.now c.requires.0).0)
 
 pub returns : goal.returns
-unfolding out
 returns c =
-    let used = seat_used c.args.store.now c.args.j c.requires.0 c.requires.1 c.seat-seat.result c.seat-seat.ensures (not-false _ c.if-not-seat.false) in
-    ap (λ (u : List ℕ). (Done, u)) (c.drop_held.ensures ∙ set_held c.args.store.now c.args.j none (λ i. (c.slice_known-1.given i).fits) c.requires.0 c.requires.1)
-    ∙ ap (out c.args.store.now c.args.j) (sym used)
+    let s = c.args.store.now in
+    ap (λ (u : List ℕ). (Ok Done, u)) (c.drop_held.ensures ∙ set_held s c.args.j none (λ i. (c.slice_known-1.given i).fits) c.requires.0 c.requires.1)
+    ∙ is_used s (get_or (book_of s).receivers c.args.j none) (λ (x : Held). without (book_of s) c.args.j) (without (book_of s) c.args.j) c.seat.result
+    (seat_is s c.args.j c.requires.0 c.requires.1 ∙ ap entry (sym c.seat.ensures)) c.if-is_none.ensures (λ x. refl)

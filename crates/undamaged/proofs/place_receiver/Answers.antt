@@ -1,33 +1,34 @@
--- `place_receiver` judges the fields, then the slot. Assumes nothing.
-use mathlib.Core.Path.{sym, ap, ◌∙◌}
-use native.Mathlib.Omega.{arith}
+-- `place_receiver` judges the slot, then the fields. Assumes nothing.
+use mathlib.Core.Path.{◌∙◌}
 use mathlib.Core.Option.{some}
-use Rattle.road.specs.declared.Verdict.{Verdict}
-use Rattle.road.specs.Judge.{slot_verdict}
+use Rattle.std.proofs.lemmas.Result.{err_from_is_err_and}
+use Rattle.road.specs.Judge.{receiver_verdict}
 use Rattle.store.specs.Store.{last_receiver, book_of}
-use Rattle.calls.specs.Calls.{told, allow, change_receiver, place_receiver}
-use Rattle.road.proofs.Judged.{slot_allowed}
+use Rattle.calls.specs.Calls.{change_receiver, place_receiver}
 use Rattle.calls.proofs.Keeps.{receiver_in_kept}
+use Rattle.undamaged.proofs.Judged.{slot_refused, fields_refused, all_allowed}
 use Rattle.undamaged.proofs.place_receiver.Goals as goal
 
-pub enter_receiver-requires : goal.enter_receiver-requires
-enter_receiver-requires c =
-    let fine = slot_allowed last_receiver c.args.slot c.judge_receiver-fields.result (sym c.judge_slot.ensures ∙ c.in-Allowed.is) in
-    (c.requires.0, c.requires.1, omega (arith, fine.0), sym c.judge_receiver-fields.ensures ∙ fine.1)
-
-pub returns-in-Refused : goal.returns-in-Refused
+pub returns-in_err-judge_slot : goal.returns-in_err-judge_slot
 unfolding place_receiver
-returns-in-Refused c =
-    let e =
-    ap (λ (v : Verdict). told c.args.store.now (allow v (change_receiver c.args.slot (some c.args.r) (book_of c.args.store.now))))
-    (sym c.in-Refused.is ∙ c.judge_slot.ensures ∙ ap (slot_verdict last_receiver c.args.slot) c.judge_receiver-fields.ensures) in
-    (e, receiver_in_kept c.args.store.now c.requires.1 c.args.slot c.args.r e)
+returns-in_err-judge_slot c =
+    let p = err_from_is_err_and c.from_residual.result c.from_residual.ensures.1 in
+    let s = c.args.store.now in
+    rw (p.1, p.2) (slot_refused s last_receiver c.args.slot (receiver_verdict c.args.r) (change_receiver c.args.slot (some c.args.r) (book_of s)) _ c.in_err-judge_slot.ensures, c.requires)
 
-pub returns-in-Allowed : goal.returns-in-Allowed
+pub returns-in_err-judge_receiver : goal.returns-in_err-judge_receiver
 unfolding place_receiver
-returns-in-Allowed c =
+returns-in_err-judge_receiver c =
+    let p = err_from_is_err_and c.from_residual-in_err-judge_receiver.result c.from_residual-in_err-judge_receiver.ensures.1 in
+    let s = c.args.store.now in
+    rw (p.1, p.2)
+    (fields_refused s last_receiver c.args.slot (receiver_verdict c.args.r) (change_receiver c.args.slot (some c.args.r) (book_of s)) c.in_ok-judge_slot.ensures _ c.in_err-judge_receiver.ensures, c.requires)
+
+pub returns : goal.returns
+unfolding place_receiver
+returns c =
+    let s = c.args.store.now in
     let e =
     c.enter_receiver.ensures
-    ∙ ap (λ (v : Verdict). told c.args.store.now (allow v (change_receiver c.args.slot (some c.args.r) (book_of c.args.store.now))))
-    (sym c.in-Allowed.is ∙ c.judge_slot.ensures ∙ ap (slot_verdict last_receiver c.args.slot) c.judge_receiver-fields.ensures) in
-    (e, receiver_in_kept c.args.store.now c.requires.1 c.args.slot c.args.r e)
+    ∙ all_allowed s last_receiver c.args.slot (receiver_verdict c.args.r) (change_receiver c.args.slot (some c.args.r) (book_of s)) c.in_ok-judge_slot.ensures c.in_ok-judge_receiver.ensures in
+    (e, receiver_in_kept s c.requires c.args.slot c.args.r e)

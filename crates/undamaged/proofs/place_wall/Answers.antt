@@ -1,33 +1,34 @@
--- `place_wall` judges the fields, then the slot. Assumes nothing.
-use mathlib.Core.Path.{sym, ap, ◌∙◌}
-use native.Mathlib.Omega.{arith}
+-- `place_wall` judges the slot, then the fields. Assumes nothing.
+use mathlib.Core.Path.{◌∙◌}
 use mathlib.Core.Option.{some}
-use Rattle.road.specs.declared.Verdict.{Verdict}
-use Rattle.road.specs.Judge.{slot_verdict}
+use Rattle.std.proofs.lemmas.Result.{err_from_is_err_and}
+use Rattle.road.specs.Judge.{wall_verdict}
 use Rattle.store.specs.Store.{last_wall, book_of}
-use Rattle.calls.specs.Calls.{told, allow, change_wall, place_wall}
-use Rattle.road.proofs.Judged.{slot_allowed}
+use Rattle.calls.specs.Calls.{change_wall, place_wall}
 use Rattle.calls.proofs.Keeps.{wall_in_kept}
+use Rattle.undamaged.proofs.Judged.{slot_refused, fields_refused, all_allowed}
 use Rattle.undamaged.proofs.place_wall.Goals as goal
 
-pub change_wall-requires : goal.change_wall-requires
-change_wall-requires c =
-    let fine = slot_allowed last_wall c.args.slot c.judge_wall-fields.result (sym c.judge_slot.ensures ∙ c.in-Allowed.is) in
-    (c.requires.0, c.requires.1, omega (arith, fine.0), λ e. sym c.judge_wall-fields.ensures ∙ fine.1)
-
-pub returns-in-Refused : goal.returns-in-Refused
+pub returns-in_err-judge_slot : goal.returns-in_err-judge_slot
 unfolding place_wall
-returns-in-Refused c =
-    let e =
-    ap (λ (v : Verdict). told c.args.store.now (allow v (change_wall c.args.slot (some c.args.w) (book_of c.args.store.now))))
-    (sym c.in-Refused.is ∙ c.judge_slot.ensures ∙ ap (slot_verdict last_wall c.args.slot) c.judge_wall-fields.ensures) in
-    (e, wall_in_kept c.args.store.now c.requires.1 c.args.slot c.args.w e)
+returns-in_err-judge_slot c =
+    let p = err_from_is_err_and c.from_residual.result c.from_residual.ensures.1 in
+    let s = c.args.store.now in
+    rw (p.1, p.2) (slot_refused s last_wall c.args.slot (wall_verdict c.args.w) (change_wall c.args.slot (some c.args.w) (book_of s)) _ c.in_err-judge_slot.ensures, c.requires)
 
-pub returns-in-Allowed : goal.returns-in-Allowed
+pub returns-in_err-judge_wall : goal.returns-in_err-judge_wall
 unfolding place_wall
-returns-in-Allowed c =
+returns-in_err-judge_wall c =
+    let p = err_from_is_err_and c.from_residual-in_err-judge_wall.result c.from_residual-in_err-judge_wall.ensures.1 in
+    let s = c.args.store.now in
+    rw (p.1, p.2)
+    (fields_refused s last_wall c.args.slot (wall_verdict c.args.w) (change_wall c.args.slot (some c.args.w) (book_of s)) c.in_ok-judge_slot.ensures _ c.in_err-judge_wall.ensures, c.requires)
+
+pub returns : goal.returns
+unfolding place_wall
+returns c =
+    let s = c.args.store.now in
     let e =
     c.change_wall.ensures
-    ∙ ap (λ (v : Verdict). told c.args.store.now (allow v (change_wall c.args.slot (some c.args.w) (book_of c.args.store.now))))
-    (sym c.in-Allowed.is ∙ c.judge_slot.ensures ∙ ap (slot_verdict last_wall c.args.slot) c.judge_wall-fields.ensures) in
-    (e, wall_in_kept c.args.store.now c.requires.1 c.args.slot c.args.w e)
+    ∙ all_allowed s last_wall c.args.slot (wall_verdict c.args.w) (change_wall c.args.slot (some c.args.w) (book_of s)) c.in_ok-judge_slot.ensures c.in_ok-judge_wall.ensures in
+    (e, wall_in_kept s c.requires c.args.slot c.args.w e)

@@ -1,29 +1,23 @@
 -- `withdraw_wall` judges the slot first. Assumes nothing.
-use mathlib.Core.Path.{sym, ap, ◌∙◌}
-use native.Mathlib.Omega.{arith}
-use Rattle.road.specs.declared.Verdict.{Verdict}
-use Rattle.road.specs.declared.Verdict.TheVariants.{Allowed}
+use Rattle.std.specs.Prelude.{Ok}
+use mathlib.Core.Path.{refl, ◌∙◌}
+use Rattle.std.proofs.lemmas.Result.{err_from_is_err_and}
 use Rattle.store.specs.Store.{last_wall, book_of}
-use Rattle.calls.specs.Calls.{told, allow, leave_wall, withdraw_wall}
-use Rattle.road.proofs.Judged.{slot_allowed}
+use Rattle.calls.specs.Calls.{leave_wall, withdraw_wall}
 use Rattle.calls.proofs.Keeps.{wall_out_kept}
+use Rattle.undamaged.proofs.Judged.{slot_refused, all_allowed}
 use Rattle.undamaged.proofs.withdraw_wall.Goals as goal
 
-pub leave_wall-requires : goal.leave_wall-requires
-leave_wall-requires c =
-    (c.requires.0, c.requires.1, omega (arith, (slot_allowed last_wall c.args.slot Allowed (sym c.judge_slot.ensures ∙ c.in-Allowed.is)).0))
-
-pub returns-in-Refused : goal.returns-in-Refused
+pub returns-in_err-judge_slot : goal.returns-in_err-judge_slot
 unfolding withdraw_wall
-returns-in-Refused c =
-    let e =
-    ap (λ (v : Verdict). told c.args.store.now (allow v (leave_wall c.args.slot (book_of c.args.store.now)))) (sym c.in-Refused.is ∙ c.judge_slot.ensures) in
-    (e, wall_out_kept c.args.store.now c.requires.1 c.args.slot e)
+returns-in_err-judge_slot c =
+    let p = err_from_is_err_and c.from_residual.result c.from_residual.ensures.1 in
+    let s = c.args.store.now in
+    rw (p.1, p.2) (slot_refused s last_wall c.args.slot (Ok tt) (leave_wall c.args.slot (book_of s)) _ c.in_err-judge_slot.ensures, c.requires)
 
-pub returns-in-Allowed : goal.returns-in-Allowed
+pub returns : goal.returns
 unfolding withdraw_wall
-returns-in-Allowed c =
-    let e =
-    c.leave_wall.ensures
-    ∙ ap (λ (v : Verdict). told c.args.store.now (allow v (leave_wall c.args.slot (book_of c.args.store.now)))) (sym c.in-Allowed.is ∙ c.judge_slot.ensures) in
-    (e, wall_out_kept c.args.store.now c.requires.1 c.args.slot e)
+returns c =
+    let s = c.args.store.now in
+    let e = c.leave_wall.ensures ∙ all_allowed s last_wall c.args.slot (Ok tt) (leave_wall c.args.slot (book_of s)) c.in_ok-judge_slot.ensures refl in
+    (e, wall_out_kept s c.requires c.args.slot e)

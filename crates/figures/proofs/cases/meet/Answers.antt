@@ -1,40 +1,34 @@
 -- `meet` hears a road that is allowed as its pair with the point is heard.
 -- Assumes nothing.
-use mathlib.Core.Path.{◌≡◌, refl, sym, ap, ap₂, ◌∙◌}
-use Prim.Native.Nat.{ℕ}
+use Rattle.std.specs.Prelude.{Result, Ok, Err}
+use Rattle.std.specs.Result.{MatchResult, is_ok}
 use native.Mathlib.Omega.{arith}
-use Rattle.road.specs.declared.Receiver.{Receiver}
-use Rattle.road.specs.declared.Verdict.TheVariants.{Allowed}
+use Rattle.answer.specs.declared.Refusal.{Refusal}
+use Rattle.road.specs.declared.Bar.{Bar}
+use Rattle.road.specs.declared.Shares.{Shares}
+use Rattle.road.specs.Results.{Pair}
+use mathlib.Core.Path.{◌≡◌, refl, sym, ap, ◌∙◌}
 use Rattle.road.specs.Judge.{receiver_verdict}
-use mathlib.Core.List.{List, []}
-use Rattle.screen.specs.declared.Wall.{Wall}
-use Rattle.screen.specs.Screen.{walls_in, walls_of, Laid}
+use mathlib.Core.List.{[]}
+use Rattle.std.proofs.lemmas.List.Elements.{All-nil}
+use Rattle.screen.specs.Plan.{WallOnPlan}
 use Rattle.road.specs.Reach.{pair_of}
 use Rattle.road.specs.Figures.{home}
 use Rattle.figures.proofs.cases.meet.Goals as goal
 
-home_allowed : receiver_verdict home ≡ Allowed
+home_allowed : receiver_verdict home ≡ Ok tt
 unfolding receiver_verdict
 home_allowed = refl
 
-no_walls : Laid []
-unfolding Laid walls_of walls_in
-no_walls = tt
-
-none_are : walls_of [] ≡ []
-unfolding walls_of walls_in
-none_are = refl
-
-pub send-sent-requires : goal.send-sent-requires
-send-sent-requires c = (c.requires, sym c.judge_source.ensures ∙ c.in-Allowed.is)
+-- where what is barred becomes a refusal, what is told was heard
+heard : (p : Pair) (r : Result Shares Refusal) (Q : Bar → Type 0) (h : Shares) → MatchResult p (λ x. r ≡ Ok x) Q → is_ok r ≡ is_ok p → r ≡ Ok h → p ≡ Ok h
+heard (Ok x) r Q h m v e = grind arith
+heard (Err b) r Q h m v e = grind arith
 
 pub pair-requires : goal.pair-requires
-pair-requires c =
-    (c.requires, sym c.judge_source.ensures ∙ c.in-Allowed.is, c.send-sent.ensures, ap receiver_verdict c.point.ensures ∙ home_allowed, no_walls)
+pair-requires c = (sym c.in_ok-judge_source.ensures, c.send.ensures, ap receiver_verdict c.point.ensures ∙ home_allowed, All-nil WallOnPlan)
 
-pub returns-in-Refused : goal.returns-in-Refused
-returns-in-Refused c = λ h e. absurd (let z : ◌≡◌ {A = ℕ} 0 1 = cc in omega arith)
-
-pub returns-in-Allowed : goal.returns-in-Allowed
-returns-in-Allowed c =
-    λ h e. sym (c.pair.ensures ∙ ap₂ (λ (ws : List Wall) (r : Receiver). pair_of ws c.args.s r) none_are c.point.ensures) ∙ c.told.ensures h e
+pub returns : goal.returns
+returns c = λ h e.
+    sym (c.pair.ensures ∙ ap (pair_of [] c.args.s) c.point.ensures)
+    ∙ heard c.pair.result c.map_err.result _ h c.map_err.ensures.cases c.map_err.ensures.variant e

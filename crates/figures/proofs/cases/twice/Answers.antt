@@ -9,4 +9,4 @@ use Rattle.figures.proofs.cases.twice.Goals as goal
 
 pub overflow_add-both : goal.overflow_add-both
 overflow_add-both c =
-    omega (arith, heard_most (pair_of []) (pair_bounded []) c.street.result home _ (c.meet.ensures _ c.in-Told.is) 2)
+    omega (arith, heard_most (pair_of []) (pair_bounded []) c.street.result home _ (c.meet.ensures _ c.in-Ok.is) 2)

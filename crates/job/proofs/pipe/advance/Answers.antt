@@ -22,10 +22,10 @@ slice_bounds-write_all-end-2 c =
 pub overflow_add-next : goal.overflow_add-next
 overflow_add-next c =
     let fed = feeds c.args.hand.over c.args.x (part c.args.hand.from c.args.hand.to c.args.input.now) c.args.store.now c.args.output.now c.feed-p.result _ _ c.feed-p.ensures.0 c.feed-p.auto.out in
-    record { fits = omega (arith, fed.used_within, part_length c.args.input.now c.args.hand.from c.args.hand.to c.requires.2 c.requires.3, c.requires.4) }
+    record { fits = omega (arith, fed.used_within, part_length c.args.input.now c.args.hand.from c.args.hand.to c.requires.1 c.requires.2, c.requires.3) }
 
 pub returns : goal.returns
 returns c =
     let fed = feeds c.args.hand.over c.args.x (part c.args.hand.from c.args.hand.to c.args.input.now) c.args.store.now c.args.output.now c.feed-p.result _ _ c.feed-p.ensures.0 c.feed-p.auto.out in
-    advanced c.args.hand c.args.x c.args.input.now c.args.store.now c.args.output.now c.feed-p.result _ _ (not c.is_ok-told.result) c.requires.2 c.requires.3 c.requires.4
+    advanced c.args.hand c.args.x c.args.input.now c.args.store.now c.args.output.now c.feed-p.result _ _ (not c.is_ok-told.result) c.requires.1 c.requires.2 c.requires.3
     c.feed-p.auto.out c.feed-p.ensures.1 fed

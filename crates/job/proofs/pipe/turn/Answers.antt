@@ -5,11 +5,11 @@ use Rattle.job.proofs.pipe.turn.Goals as goal
 
 pub returns-then-hand : goal.returns-then-hand
 returns-then-hand c =
-    turned_unread c.args.s c.args.input.now c.args.store.now c.refill-hand.result _ c.refill-hand.ensures c.args.output.now c.requires.1
+    turned_unread c.args.s c.args.input.now c.args.store.now c.refill-hand.result _ c.refill-hand.ensures c.args.output.now c.requires.0
 
 pub advance-requires : goal.advance-requires
 advance-requires c =
-    (c.requires.0, c.requires.1, c.refill-hand.ensures.ordered, c.refill-hand.ensures.within, omega (arith, c.requires.5, c.refill-hand.auto.input), c.requires.6)
+    (c.requires.0, c.refill-hand.ensures.ordered, c.refill-hand.ensures.within, omega (arith, c.requires.4, c.refill-hand.auto.input), c.requires.5)
 
 pub returns : goal.returns
 returns c =

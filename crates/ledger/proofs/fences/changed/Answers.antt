@@ -1,23 +1,41 @@
--- `changed` has the wall that comes, or nothing, in the slot. Assumes nothing.
--- what comes stands
-use mathlib.Core.Path.{◌≡◌, refl, subst}
-use mathlib.Core.Bool.{Bool, true, false, cond}
-use mathlib.Core.Option.{none, some}
-use Prim.Native.Nat.{ℕ}
+-- `changed` gathers the walls of one slot after the other. Assumes nothing.
+use Rattle.std.specs.Prelude.{None, Some}
+use mathlib.Core.Path.{◌≡◌, sym, ap, ◌∙◌, subst}
+use mathlib.Core.Option.{Option, some}
+use mathlib.Core.List.{List}
+use Prim.Native.Nat.{ℕ, ◌<◌}
 use native.Mathlib.Omega.{arith}
-use lib.ListN.{set}
+use lib.ListN.{length, set, length-set}
 use Rattle.screen.specs.declared.Wall.{Wall}
-use Rattle.store.specs.Store.{book_of, WallStands}
+use Rattle.store.specs.Slots.{entry}
+use Rattle.store.specs.Store.{book_of, WallSlot, WallStands}
 use Rattle.store.proofs.Laws.{sound_book, sound_wall}
-use Rattle.ledger.proofs.Laying.{fenced}
+use Rattle.ledger.specs.Ledger.{WallMayStand}
+use Rattle.ledger.proofs.Laying.{laying_free, laying_wall, fenced}
 use Rattle.ledger.proofs.fences.changed.Goals as goal
+use Rattle.ledger.proofs.fences.changed.Goals.{in-Some, in_default}
 
-comes : (adding : Bool) (w : Wall) → (adding ≡ true → WallStands w) → (v : Wall) → cond adding (some w) none ≡ some v → WallStands v
-comes true w h v e = let k : w ≡ v = cc in subst WallStands k (h refl)
-comes false w h v e = absurd (let z : ◌≡◌ {A = ℕ} 0 1 = cc in omega arith)
+-- what comes stands
+comes : (w : WallSlot) → WallMayStand w → (v : Wall) → entry w ≡ some v → WallStands v
+comes None h v e = absurd (let z : ◌≡◌ {A = ℕ} 0 1 = cc in omega arith)
+comes (Some w) h v e = let k : w ≡ v = cc in subst WallStands k h
+
+pub loop-i-preserved : goal.loop-i-preserved
+loop-i-preserved c =
+    let b = (book_of c.args.store.now).walls in
+    let l : List (Option Wall) = set b c.args.k (entry c.args.w) in
+    let m : c.loop-i.i < length l = omega (arith, c.loop-i-test.true, (sound_book c.args.store.now c.requires.0).wall_slots_lem, length-set b c.args.k (entry c.args.w)) in
+    elim c.match-slot_at.branch [
+      | in-Some w ↦
+          let r : c.loop-i.n < length c.loop-i.room = omega (arith, c.loop-i.invariant.room, c.loop-i-test.true, sym (length-set c.loop-i.room c.loop-i.n w.in-Some.wall) ∙ sym (ap length w.room-is) ∙ c.match-slot_at.array_long) in
+          rw (w.room-is, w.n-is) (laying_wall l c.loop-i.room c.loop-i.n c.loop-i.i m c.loop-i.invariant w.in-Some.wall w.in-Some.ensures r)
+      | in_default w ↦ rw (w.room-is, w.n-is) (laying_free l c.loop-i.room c.loop-i.n c.loop-i.i m c.loop-i.invariant w.in_default.ensures)
+    ]
 
 pub returns : goal.returns
 returns c =
-    let b = sound_book c.args.store.now c.requires.0 in
-    let stands = (sound_wall (book_of c.args.store.now) c.args.k (cond c.args.adding (some c.args.w) none) b (comes c.args.adding c.args.w c.requires.1)).walls_stand in
-    fenced (set (book_of c.args.store.now).walls c.args.k (cond c.args.adding (some c.args.w) none)) _ _ stands c.gather.ensures
+    let b = book_of c.args.store.now in
+    let stands = (sound_wall b c.args.k (entry c.args.w) (sound_book c.args.store.now c.requires.0) (comes c.args.w c.requires.1)).walls_stand in
+    let n = length-set b.walls c.args.k (entry c.args.w) in
+    fenced (set b.walls c.args.k (entry c.args.w)) c.loop-i.room c.loop-i.n c.loop-i.i stands
+    (omega (arith, n, (sound_book c.args.store.now c.requires.0).wall_slots_lem, c.loop-i-test.false)) c.loop-i.invariant

@@ -1,6 +1,5 @@
 -- `with_digit` adds a digit behind the number where all of it is below 2^64.
--- Assumes nothing.
--- no digit
+use Rattle.std.proofs.Common.{inl, inr}
 use Prim.Native.Nat.{ℕ, ◌+◌, ◌-◌, ◌*◌, ◌^◌, ◌≤◌, ◌<◌}
 use mathlib.Core.Path.{◌≡◌}
 use native.Mathlib.Omega.{arith}
@@ -9,6 +8,7 @@ use Rattle.longhand.specs.declared.reading.Reading.TheVariants.{Number, Wrong}
 use Rattle.longhand.specs.Reading.{with_digit}
 use Rattle.longhand.proofs.reading.with_digit.Goals as goal
 
+-- no digit
 under : (q b : ℕ) → b < 48 → Wrong ≡ with_digit q b
 unfolding with_digit
 under q b h = rw (lt-ltb b 48 h)
@@ -27,14 +27,25 @@ module _ (q b : ℕ) (h : 48 ≤ b) (k : b ≤ 57) where
   unfolding with_digit
   longer l = rw (le-ltb b 48 h, le-ltb 57 b k, lt-ltb (q * 10 + (b - 48)) (2 ^ 64) l)
 
-pub returns-then-byte-lt48 : goal.returns-then-byte-lt48
-returns-then-byte-lt48 c = under _ _ c.if-byte-lt48.true
+pub returns-then-not-is_ascii_digit : goal.returns-then-not-is_ascii_digit
+returns-then-not-is_ascii_digit c =
+    elim c.if-not-is_ascii_digit.ensures.cases [ inl h ↦ under _ _ h | inr h ↦ beyond _ _ (omega arith) h ]
 
-pub returns-then-byte-gt57 : goal.returns-then-byte-gt57
-returns-then-byte-gt57 c = beyond _ _ c.if-byte-lt48.false c.if-byte-gt57.true
+pub returns-in_default : goal.returns-in_default
+returns-in_default c =
+    let d = c.if-not-is_ascii_digit.ensures.cases in
+    let l : 2 ^ 64 ≤ c.args.q * 10 = omega (arith, c.in_default.ensures) in
+    too_large _ _ d.0 d.1 (omega (arith, l))
 
-pub returns-then-digit-q : goal.returns-then-digit-q
-returns-then-digit-q c = too_large _ _ c.if-byte-lt48.false c.if-byte-gt57.false (omega arith)
+pub returns-in_default-checked_add : goal.returns-in_default-checked_add
+returns-in_default-checked_add c =
+    let d = c.if-not-is_ascii_digit.ensures.cases in
+    let l : 2 ^ 64 ≤ c.in-Some.tens + c.from-digit.result = omega (arith, c.in_default-checked_add.ensures) in
+    too_large _ _ d.0 d.1 (omega (arith, l, c.in-Some.ensures, c.from-digit.ensures))
 
 pub returns : goal.returns
-returns c = longer _ _ c.if-byte-lt48.false c.if-byte-gt57.false (omega arith)
+returns c =
+    let d = c.if-not-is_ascii_digit.ensures.cases in
+    let e : c.in-Some-checked_add.more ≡ c.args.q * 10 + (c.args.byte - 48) =
+    omega (arith, c.in-Some-checked_add.ensures, c.in-Some.ensures, c.from-digit.ensures) in
+    rw e (longer _ _ d.0 d.1 (omega (arith, e, c.in-Some-checked_add.ensures, c.in-Some.ensures, c.from-digit.ensures)))

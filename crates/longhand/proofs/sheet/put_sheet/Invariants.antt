@@ -1,10 +1,6 @@
 -- `put_sheet` puts the first line, a row at each place that the calculation comes to, and the sum.
--- Assumes nothing.
 use Rattle.longhand.proofs.Rows.{SoFar}
 use Rattle.longhand.proofs.sheet.put_sheet.Given as goal
 
-abbrev pub invariant-loop-place : goal.invariant-loop-place
-invariant-loop-place l = SoFar l.q l.n l.i l.place l.line l.initial.at l.at l.initial.out l.out
-
-abbrev pub decreases-loop-place : goal.decreases-loop-place
-decreases-loop-place l = l.place
+abbrev pub invariant-loop-i : goal.invariant-loop-i
+invariant-loop-i l = SoFar l.q l.n l.i l.place l.line l.initial.at l.at l.initial.out l.out

@@ -9,12 +9,12 @@ pub returns-then-c-ray : goal.returns-then-c-ray
 returns-then-c-ray c = sym (screening_none c.args.c (omega (arith, c.ray-ray.ensures, c.if-c-ray.true)))
 
 pub overflow_add-ray : goal.overflow_add-ray
-overflow_add-ray c = omega (arith, c.ray-ray.ensures, c.lift.ensures, through_most c.args.c c.requires.1)
+overflow_add-ray c = omega (arith, c.ray-ray.ensures, c.lift.ensures, through_most c.args.c c.requires)
 
 pub taken_off-requires : goal.taken_off-requires
 taken_off-requires c =
-    let m = z_most c.args.c c.requires.1 in
-    (c.requires.0, rw c.ways.ensures m.0, rw c.ways.ensures m.1)
+    let m = z_most c.args.c c.requires in
+    (rw c.ways.ensures m.0, rw c.ways.ensures m.1)
 
 pub returns : goal.returns
 returns c =

@@ -14,7 +14,7 @@ use Rattle.store.proofs.receivers.drop_held.Goals as goal
 
 pub put-requires : goal.put-requires
 unfolding store_length
-put-requires c = (refl, omega arith, zeros_within (party_layout held_party))
+put-requires c = (omega arith, (omega arith, ((refl, refl), (omega (arith, c.requires.0, c.requires.1), zeros_within (party_layout held_party)))))
 
 pub returns : goal.returns
 unfolding slot_bytes split

@@ -15,10 +15,10 @@ use Rattle.store.proofs.receivers.put_held.Goals as goal
 pub put-requires : goal.put-requires
 unfolding store_length
 put-requires c =
-    (refl, omega arith, subst (Within (party_layout held_party)) (sym c.numbers_of-v.ensures) (held_fits c.args.h c.requires.2))
+    (omega arith, (omega arith, ((refl, refl), (omega (arith, c.requires.0, c.requires.1), subst (Within (party_layout held_party)) (sym c.numbers_of.ensures) (held_fits c.args.h c.requires.2)))))
 
 pub returns : goal.returns
 unfolding slot_bytes split
 returns c =
     c.put.ensures
-    ∙ ap (λ (v : List ℕ). over (split + c.args.j * receiver_size) (packed (party_layout held_party) v) c.args.store.now) c.numbers_of-v.ensures
+    ∙ ap (λ (v : List ℕ). over (split + c.args.j * receiver_size) (packed (party_layout held_party) v) c.args.store.now) c.numbers_of.ensures

@@ -1,34 +1,51 @@
--- `torn` meets its contract: without the mark 1 it looks for zeros, with it the verdict and the sums decide.
+-- `torn` looks for zeros where the mark is not 1; where it is, what may be in the book decides.
 -- Assumes nothing.
+use Rattle.std.specs.Prelude.{is_err}
 use Prim.Native.Nat.{ℕ}
-use mathlib.Core.Path.{◌≡◌, sym, ap, ◌∙◌}
+use mathlib.Core.Path.{refl, sym, ap, ◌∙◌}
 use mathlib.Core.Bool.{not, ◌&&◌}
 use mathlib.Core.List.{List}
-use lib.ListN.{get_or}
-use Rattle.road.specs.declared.Verdict.{Verdict}
+use native.Mathlib.Omega.{arith}
+use Rattle.road.specs.Results.{Verdict}
 use Rattle.road.specs.Judge.{receiver_verdict}
 use Rattle.store.specs.declared.Held.{Held}
 use Rattle.account.specs.Account.{sound}
-use Rattle.store.specs.Slots.{slot_by, is_torn}
-use Rattle.store.specs.Store.{is_allowed, held_from, held_party}
-use Rattle.store.proofs.Slots.{torn_unmarked, torn_marked}
+use Rattle.store.specs.Slots.{party_layout, slot_by, slot_of, is_torn}
+use Rattle.store.specs.Store.{is_allowed, store_length, split, held_party, receiver_at}
+use Rattle.store.proofs.Parties.{refused_first, refused_second}
+use Rattle.store.proofs.Slots.{fields_fit, torn_unmarked, torn_marked}
 use Rattle.store.proofs.receivers.torn.Goals as goal
 
-judged : (v : List ℕ) (h : Held) (w : Verdict) → get_or v 0 0 ≡ 1 → h ≡ held_from v → receiver_verdict h.who ≡ w
-    → not (is_allowed w && sound h.sums) ≡ is_torn (slot_by held_party v)
-judged v h w m f g =
-    ap (λ (x : Verdict). not (is_allowed x && sound h.sums)) (sym g) ∙ ap (λ (x : Held). not (is_allowed (receiver_verdict x.who) && sound x.sums)) f ∙ sym (torn_marked held_party v m)
+pub numbers-v-requires : goal.numbers-v-requires
+unfolding store_length
+numbers-v-requires c = (omega arith, (omega arith, ((refl, refl), omega (arith, c.requires.0, c.requires.1))))
 
 pub returns-then-unmarked : goal.returns-then-unmarked
-returns-then-unmarked c = ap not c.blank.ensures ∙ sym (torn_unmarked held_party _ c.if-unmarked.true)
+unfolding slot_of split
+returns-then-unmarked c =
+    ap not c.blank.ensures ∙ sym (torn_unmarked held_party _ c.if-unmarked.true)
+    ∙ ap (λ (v : List ℕ). is_torn (slot_by held_party v)) c.numbers-v.ensures
 
-pub returns-in-Allowed : goal.returns-in-Allowed
-returns-in-Allowed c =
+pub held_from-h-requires : goal.held_from-h-requires
+unfolding split
+held_from-h-requires c = fields_fit (party_layout held_party) (receiver_at c.args.j c.args.store.now) _ c.numbers-v.ensures
+
+pub returns-then-is_err : goal.returns-then-is_err
+unfolding slot_of split
+returns-then-is_err c =
+    let h = c.held_from-h.result in
+    let v = c.numbers-v.result in
+    c.is_err.ensures.value ∙ ap (λ (w : Verdict). is_err w) c.judge_receiver.ensures
+    ∙ refused_first (receiver_verdict h.who) (sound h.sums) (sym (c.is_err.ensures.value ∙ ap (λ (w : Verdict). is_err w) c.judge_receiver.ensures) ∙ c.if-is_err.true)
+    ∙ ap (λ (x : Held). not (is_allowed (receiver_verdict x.who) && sound x.sums)) c.held_from-h.ensures ∙ sym (torn_marked held_party v c.if-unmarked.false)
+    ∙ ap (λ (n : List ℕ). is_torn (slot_by held_party n)) c.numbers-v.ensures
+
+pub returns-else-is_err : goal.returns-else-is_err
+unfolding slot_of split
+returns-else-is_err c =
+    let h = c.held_from-h.result in
+    let v = c.numbers-v.result in
     ap not c.sound.ensures
-    ∙ judged _ _ _ c.if-unmarked.false c.held_from-h.ensures
-    (sym c.judge_receiver.ensures ∙ c.in-Allowed.is)
-
-pub returns-in-Refused : goal.returns-in-Refused
-returns-in-Refused c =
-    judged _ _ _ c.if-unmarked.false c.held_from-h.ensures
-    (sym c.judge_receiver.ensures ∙ c.in-Refused.is)
+    ∙ refused_second (receiver_verdict h.who) (sound h.sums) (sym (c.is_err.ensures.value ∙ ap (λ (w : Verdict). is_err w) c.judge_receiver.ensures) ∙ c.if-is_err.false)
+    ∙ ap (λ (x : Held). not (is_allowed (receiver_verdict x.who) && sound x.sums)) c.held_from-h.ensures ∙ sym (torn_marked held_party v c.if-unmarked.false)
+    ∙ ap (λ (n : List ℕ). is_torn (slot_by held_party n)) c.numbers-v.ensures

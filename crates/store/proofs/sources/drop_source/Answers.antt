@@ -1,6 +1,8 @@
 -- `drop_source` writes zeros into the bytes of slot i.
 -- Assumes nothing.
-use Prim.Native.Nat.{◌*◌}
+use Prim.Native.Nat.{◌+◌, ◌*◌}
+use native.Mathlib.Nat.{zero-add}
+use Rattle.std.proofs.Math.Option.{none}
 use mathlib.Core.List.{List}
 use native.Mathlib.Omega.{arith}
 use Prim.Native.Nat.{ℕ}
@@ -14,9 +16,10 @@ use Rattle.store.proofs.sources.drop_source.Goals as goal
 
 pub put-requires : goal.put-requires
 unfolding store_length
-put-requires c = (refl, omega arith, zeros_within (party_layout source_party))
+put-requires c = (omega arith, (omega arith, ((refl, refl), (omega (arith, c.requires.0, c.requires.1), zeros_within (party_layout source_party)))))
 
 pub returns : goal.returns
 unfolding slot_bytes
 returns c =
-    c.put.ensures ∙ ap (λ (t : List ℕ). over (c.args.i * source_size) t c.args.store.now) (packed_zeros (party_layout source_party))
+    c.put.ensures ∙ ap (λ (t : List ℕ). over (0 + c.args.i * source_size) t c.args.store.now) (packed_zeros (party_layout source_party))
+    ∙ ap (λ (m : ℕ). over m (slot_bytes source_party none) c.args.store.now) (zero-add (c.args.i * source_size))

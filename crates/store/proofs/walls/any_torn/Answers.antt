@@ -1,40 +1,20 @@
--- `any_torn` meets its contract: what is found from slot k on is what is found at all.
+-- `any_torn` looks at each slot.
 -- Assumes nothing.
+use Rattle.std.proofs.Common.{rules}
+use Rattle.std.proofs.lemmas.Iterator.{cases_from_any, YieldsList-from_range}
 use Prim.Native.Nat.{ℕ}
-use mathlib.Core.Path.{sym, ap, ◌∙◌}
-use mathlib.Core.List.{List}
-use native.Mathlib.Omega.{arith}
+use mathlib.Core.Path.{◌≡◌, refl}
+use mathlib.Core.Bool.{true, false}
 use lib.ListN.{drop}
-use Rattle.store.specs.Slots.{party_layout, slot_by, slot_of, is_torn}
+use Rattle.store.specs.Slots.{slot_of, is_torn}
 use Rattle.store.specs.Store.{wall_slots, walls_begin, wall_party, wall_at}
-use Rattle.store.proofs.Slots.{fields_fit, place, seek_start, seek_hit, seek_on, seek_end}
+use Rattle.store.proofs.Slots.{place, torn_by}
 use Rattle.store.proofs.walls.any_torn.Goals as goal
-
-pub loop-k-init : goal.loop-k-init
-loop-k-init c = seek_start wall_party wall_slots _
-
-pub torn-requires : goal.torn-requires
-torn-requires c =
-    fields_fit (party_layout wall_party) (wall_at c.loop-k.k c.args.store.now) _ c.numbers-v.ensures
-
-pub returns-then-torn : goal.returns-then-torn
-unfolding slot_of wall_slots
-returns-then-torn c =
-    let e = ap (λ (t : List ℕ). is_torn (slot_of wall_party t)) (place wall_party walls_begin c.loop-k.k c.args.store.now) ∙ ap (λ (v : List ℕ). is_torn (slot_by wall_party v)) (sym c.numbers-v.ensures) ∙ sym c.torn.ensures ∙ c.if-torn.true in
-    seek_hit wall_party wall_slots (drop walls_begin c.args.store.now) c.loop-k.k (omega arith) c.loop-k.invariant e
-
-pub overflow_add-k : goal.overflow_add-k
-overflow_add-k c = omega arith
-
-pub loop-k-smaller : goal.loop-k-smaller
-loop-k-smaller c = omega arith
-
-pub loop-k-preserved : goal.loop-k-preserved
-unfolding slot_of wall_slots
-loop-k-preserved c =
-    let e = ap (λ (t : List ℕ). is_torn (slot_of wall_party t)) (place wall_party walls_begin c.loop-k.k c.args.store.now) ∙ ap (λ (v : List ℕ). is_torn (slot_by wall_party v)) (sym c.numbers-v.ensures) ∙ sym c.torn.ensures ∙ c.if-torn.false in
-    seek_on wall_party wall_slots (drop walls_begin c.args.store.now) c.loop-k.k (omega arith) c.loop-k.invariant e
 
 pub returns : goal.returns
 unfolding wall_slots
-returns c = seek_end wall_party wall_slots _ c.loop-k.k c.loop-k-test.false c.loop-k.invariant
+returns c =
+    let s = c.args.store.now in
+    torn_by wall_party 64 (drop walls_begin s) (λ k. wall_at k s) (λ k. place wall_party walls_begin k s) _
+    (cases_from_any _ _ _ (λ (k : ℕ). is_torn (slot_of wall_party (wall_at k s)) ≡ true) (λ (k : ℕ). is_torn (slot_of wall_party (wall_at k s)) ≡ false) c.any.ensures.ran
+    (YieldsList-from_range 0 64 64 refl refl) (λ x q k. search rules) (λ x q k. search rules))

@@ -14,7 +14,7 @@ use Rattle.store.proofs.walls.drop_wall.Goals as goal
 
 pub put-requires : goal.put-requires
 unfolding store_length
-put-requires c = (refl, omega arith, zeros_within (party_layout wall_party))
+put-requires c = (omega arith, (omega arith, ((refl, refl), (omega (arith, c.requires.0, c.requires.1), zeros_within (party_layout wall_party)))))
 
 pub returns : goal.returns
 unfolding slot_bytes walls_begin

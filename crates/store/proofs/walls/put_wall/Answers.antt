@@ -15,10 +15,10 @@ use Rattle.store.proofs.walls.put_wall.Goals as goal
 pub put-requires : goal.put-requires
 unfolding store_length
 put-requires c =
-    (refl, omega arith, subst (Within (party_layout wall_party)) (sym c.numbers_of-v.ensures) (wall_fits c.args.w c.requires.2))
+    (omega arith, (omega arith, ((refl, refl), (omega (arith, c.requires.0, c.requires.1), subst (Within (party_layout wall_party)) (sym c.numbers_of.ensures) (wall_fits c.args.w c.requires.2)))))
 
 pub returns : goal.returns
 unfolding slot_bytes walls_begin
 returns c =
     c.put.ensures
-    ∙ ap (λ (v : List ℕ). over (walls_begin + c.args.k * wall_size) (packed (party_layout wall_party) v) c.args.store.now) c.numbers_of-v.ensures
+    ∙ ap (λ (v : List ℕ). over (walls_begin + c.args.k * wall_size) (packed (party_layout wall_party) v) c.args.store.now) c.numbers_of.ensures

@@ -1,0 +1,2 @@
+-- What is said of rows and values.
+pub mod Rows

@@ -1,9 +1,0 @@
--- `sized_room` lends only as much of the room as there is.
--- Assumes nothing.
-use mathlib.Core.Path.{sym}
-use native.Mathlib.Omega.{arith}
-use lib.Seq.{length-take-le}
-use Rattle.probe.proofs.sized_room.Goals as goal
-
-pub slice_bounds-with_room-end-2 : goal.slice_bounds-with_room-end-2
-slice_bounds-with_room-end-2 c = sym (length-take-le _ _ (omega arith))
