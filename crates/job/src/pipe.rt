@@ -14,6 +14,7 @@ use std::io::Read;
 const TURNS: u64 = 140737488355328;
 
 // The bytes at hand: from one place of the input to another, and whether the input is over or could not be read.
+// Flags and no error, here and in `Last` and `End`: `Follows`, `Ended` and `Ran` of specs/Job.antt promise the rest in each case.
 #[derive(Clone, Copy)]
 pub struct Hand {
     pub from: usize,

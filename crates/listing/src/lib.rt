@@ -48,6 +48,7 @@ fn put_level(out: &mut [u8], at: usize, index: Index) -> usize
 }
 
 // The line of record n that asks: the receiver's slot, L_DEN and L_Night. Gives the bytes written.
+// With no room it is 0, here and below, and no option: so many bytes are written (`put` of specs/Listing.antt).
 pub fn ask_line(n: u64, slot: u16, den: Index, night: Index, out: &mut [u8]) -> usize
     ensures { (result, out.new) ≡ put (ask_line n slot den night) out.old }
 {

@@ -12,6 +12,7 @@ ghost use Rattle.machine.specs.Inner.{TextPut, Entered, part};
 use service::Outcome;
 
 // How a job stands: the records tried, and whether it has stopped.
+// A flag and no option: both are told of a job that has stopped, too (specs/Feed.antt).
 #[derive(Clone, Copy)]
 pub struct State {
     pub count: u64,

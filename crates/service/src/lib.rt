@@ -1,4 +1,4 @@
-// One record at the front of a job, read and done to a store that is known to be undamaged, with the level table lent.
+// One record at the front of a job, read and done to a store that is known to be undamaged.
 // What comes of it is a definition of specs/Service.antt, and the store stays undamaged.
 #![tactic(auto)]
 
@@ -24,6 +24,7 @@ pub enum Report {
 pub type Outcome = Result<Report, Refusal>;
 
 // The outcome, and how many bytes on the next record begins; 0 where the job cannot go on.
+// A number and no option: `stops` of specs/Service.antt says of it when it is 0.
 #[derive(Clone, Copy)]
 pub struct Deed {
     pub outcome: Outcome,

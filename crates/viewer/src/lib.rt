@@ -30,6 +30,7 @@ fn refused(why: Refusal) -> u32
 }
 
 // The result where nothing else is refused: 2 if a length is wrong.
+// A number, here and below, and no Result: it is what C is given.
 fn at_last(wrong: bool) -> u32
     ensures { result ≡ result_of (lastly wrong none) }
 {
