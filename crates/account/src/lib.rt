@@ -12,6 +12,7 @@ use road::Shares;
 const TOP: u64 = 512_000_000_000_000_000;
 
 // Three energy sums, by default those before any share.
+// By hand beside `road::Shares`, which has the same fields: a share and a sum are not to be taken for each other.
 #[derive(Clone, Copy, Default)]
 pub struct Account {
     pub day: u64,

@@ -17,7 +17,7 @@ pub struct Piece {
 }
 
 // A road by its first end and its second.
-// By hand: that 24 bits hold them (`Mapped`) is asked of each call, since ends are read before they are judged.
+// May not change: that 24 bits hold them (`Mapped`) is asked of each call, since ends are read before they are judged.
 #[derive(Clone, Copy)]
 pub struct Ends {
     pub x1: u32,
@@ -31,15 +31,6 @@ pub struct Ends {
 pub enum Course {
     Uncut(Piece),
     Between(Ends),
-}
-
-// The mean of two coordinates, down.
-// By hand: the library has a midpoint of floats alone.
-fn mean(a: u32, b: u32) -> u32
-    requires { (a < 2 ^ 24) × (b < 2 ^ 24) }
-    ensures { result ≡ mean a b }
-{
-    (a + b) / 2
 }
 
 // The squared distance of two points in the plan.
@@ -85,7 +76,7 @@ fn middle(e: Ends) -> (u32, u32)
     requires { Mapped e }
     ensures { result ≡ (mean e.x1 e.x2, mean e.y1 e.y2) }
 {
-    (mean(e.x1, e.x2), mean(e.y1, e.y2))
+    (e.x1.midpoint(e.x2), e.y1.midpoint(e.y2))
 }
 
 // All of it as one piece, by its length.

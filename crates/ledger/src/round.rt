@@ -24,6 +24,7 @@ pub struct Sender {
 }
 
 // What becomes of a receiver's account.
+// By hand: an Option or a Result has two cases, and here are three.
 #[derive(Clone, Copy)]
 pub enum Turn {
     Moved(Account),

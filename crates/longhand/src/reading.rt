@@ -4,6 +4,7 @@ ghost use Rattle.std.specs.Prelude.{◌≡◌};
 ghost use Rattle.longhand.specs.Reading.{with_digit, fed_by};
 
 // What is read of a line so far: nothing, a number, or what is no number below 2^64.
+// By hand: an Option or a Result has two cases, and here are three.
 #[derive(Clone, Copy)]
 pub enum Reading {
     Nothing,

@@ -14,7 +14,7 @@ ghost use Rattle.screen.specs.Screen.{AllOnPlan, one_more, look_at, met_of, loss
 use course::Ends;
 
 // A point of the plan, in cm.
-// By hand: that 24 bits hold it (`OnPlan`) is asked of each call, since the definitions speak of all points; so p and r come as two.
+// May not change: that 24 bits hold it (`OnPlan`) is asked of each call, since the definitions speak of all points.
 #[derive(Clone, Copy)]
 pub struct Point {
     pub x: u32,

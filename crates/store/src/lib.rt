@@ -1,6 +1,6 @@
 // The book's state as bytes that the caller lends (docs/STORE.md): source slots, then receiver slots with their accounts, then wall slots.
 // specs/Store.antt says what book stands in the bytes and what damage is; the parts here read and write one slot.
-// By hand: each contract says the store's length, since the caller owns the bytes and lends them anew for each call.
+// May not change: each contract says the store's length, since the caller owns the bytes and lends them anew for each call.
 #![tactic(auto)]
 
 pub mod receivers;
