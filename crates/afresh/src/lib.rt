@@ -4,10 +4,7 @@
 
 ghost use Rattle.std.specs.Prelude.{◌≡◌, false, map, ◌<◌, get_or, length, Ok};
 ghost use Rattle.std.proofs.Math.Option.{none};
-ghost use Rattle.screen.specs.Screen.{AllOnPlan};
-ghost use Rattle.road.specs.Judge.{source_verdict};
 ghost use Rattle.road.specs.Reach.{pair_of};
-ghost use Rattle.road.specs.Inner.{sent_of};
 ghost use Rattle.store.specs.Slots.{entry};
 ghost use Rattle.store.specs.Store.{source_count, receiver_count, damaged, book_of};
 ghost use Rattle.ledger.specs.Lists.{present};
@@ -16,9 +13,10 @@ ghost use Rattle.ledger.specs.Ledger.{begun, heard_from, heard_at, heard_all, Re
 
 use account::Account;
 use answer::Refusal;
+use emission::Sender;
 use ledger::{Seat, Tally, round};
-use road::{Sent, Source};
-use screen::Wall;
+use road::Source;
+use screen::Walls;
 use store::Held;
 
 // A seat before any source was heard.
@@ -27,11 +25,7 @@ fn begin(seat: Seat) -> Tally
 {
     let seat = seat.map(|x| Held {
         who: x.who,
-        sums: Account {
-            day: 0,
-            evening: 0,
-            night: 0,
-        },
+        sums: Account::default(),
     });
     Tally { seat, block: None }
 }
@@ -43,20 +37,20 @@ fn begin_all(store: &[u8]) -> [Tally; store::RECEIVERS]
 {
     let mut tallies = [begin(None); store::RECEIVERS];
     for (j, t) in tallies.iter_mut().enumerate() {
-        *t = begin(store::receivers::seat(store, j));
+        *t = begin(store::read(store, j));
     }
     tallies
 }
 
 // A receiver with one source more: it has its shares, or is barred there, and the first bar stays.
-fn hear(walls: &[Wall], s: Source, sent: Sent, t: &mut Tally)
-    requires { (source_verdict s ≡ Ok tt) × (sent ≡ sent_of s) × AllOnPlan walls.now × Ready t.old.seat }
-    ensures { t.new ≡ heard_from (pair_of walls.now) s t.old }
+fn hear(walls: &Walls, from: &Sender, t: &mut Tally)
+    requires { Ready t.old.seat }
+    ensures { t.new ≡ heard_from (pair_of walls.now) from.now t.old }
 {
     let Some(x) = t.seat else {
         return;
     };
-    match reach::pair(walls, s, sent, x.who) {
+    match reach::pair(walls, from, x.who) {
         Ok(shares) => {
             let sums = x.sums.plus(shares);
             t.seat = Some(Held { who: x.who, sums });
@@ -66,30 +60,30 @@ fn hear(walls: &[Wall], s: Source, sent: Sent, t: &mut Tally)
 }
 
 // All receivers with one source more.
-fn hear_all(walls: &[Wall], s: Source, sent: Sent, tallies: &mut [Tally; store::RECEIVERS])
-    requires { (source_verdict s ≡ Ok tt) × (sent ≡ sent_of s) × AllOnPlan walls.now × AllReady tallies.old }
-    ensures { tallies.new ≡ map (heard_from (pair_of walls.now) s) tallies.old }
+fn hear_all(walls: &Walls, from: &Sender, tallies: &mut [Tally; store::RECEIVERS])
+    requires { AllReady tallies.old }
+    ensures { tallies.new ≡ map (heard_from (pair_of walls.now) from.now) tallies.old }
 {
     for t in tallies.iter_mut() {
-        hear(walls, s, sent, t);
+        hear(walls, from, t);
     }
 }
 
 // All receivers with the source of a slot more.
-fn hear_slot(walls: &[Wall], store: &[u8], i: usize, tallies: &mut [Tally; store::RECEIVERS])
-    requires { (damaged store.now ≡ false) × (i < source_count) × AllOnPlan walls.now × AllReady tallies.old }
+fn hear_slot(walls: &Walls, store: &[u8], i: usize, tallies: &mut [Tally; store::RECEIVERS])
+    requires { (damaged store.now ≡ false) × (i < source_count) × AllReady tallies.old }
     ensures { tallies.new ≡ heard_at (pair_of walls.now) (get_or (book_of store.now).sources i none) tallies.old }
 {
-    let Some(s) = store::sources::source_slot(store, i) else {
+    let Some(s) = store::read::<Source, _>(store, i) else {
         return;
     };
-    let sent = emission::send(s);
-    hear_all(walls, s, sent, tallies);
+    let sender = emission::sends(s);
+    hear_all(walls, &sender, tallies);
 }
 
 // All receivers with all sources.
-fn reckon(walls: &[Wall], store: &[u8]) -> [Tally; store::RECEIVERS]
-    requires { (damaged store.now ≡ false) × AllOnPlan walls.now }
+fn reckon(walls: &Walls, store: &[u8]) -> [Tally; store::RECEIVERS]
+    requires { (damaged store.now ≡ false) }
     ensures { result ≡ map (λ o. heard_all (pair_of walls.now) (present (book_of store.now).sources) (begun o)) (book_of store.now).receivers }
 {
     let mut tallies = begin_all(store);
@@ -113,7 +107,8 @@ fn first_block(tallies: &[Tally; store::RECEIVERS]) -> Result<(), Refusal>
 }
 
 // The seats with their sums.
-// By hand: calls from C have little stack, and `tallies.map(..)` keeps the tallies a second time, in an iterator.
+// By hand: `tallies.map(..)` keeps the tallies a second time, and calls from C have little stack; tried as `seats.iter_mut().zip(tallies)`,
+// the proof didn't close, since a zip tells nothing of what is written through it.
 fn seats_of(tallies: &[Tally; store::RECEIVERS]) -> [Seat; store::RECEIVERS]
     requires { length tallies.now ≡ receiver_count }
     ensures { result ≡ map (λ t. t.seat) tallies.now }
@@ -128,8 +123,8 @@ fn seats_of(tallies: &[Tally; store::RECEIVERS]) -> [Seat; store::RECEIVERS]
 // Every account afresh, among walls: the first bar, or the seats as they would be.
 // Apart from its caller, so that both need less stack.
 #[inline(never)]
-pub fn go_afresh(walls: &[Wall], store: &[u8]) -> Result<[Seat; store::RECEIVERS], Refusal>
-    requires { (damaged store.now ≡ false) × AllOnPlan walls.now }
+pub fn go_afresh(walls: &Walls, store: &[u8]) -> Result<[Seat; store::RECEIVERS], Refusal>
+    requires { (damaged store.now ≡ false) }
     ensures { result ≡ rounded (renewing (pair_of walls.now) (present (book_of store.now).sources)) (book_of store.now).receivers }
 {
     let tallies = reckon(walls, store);

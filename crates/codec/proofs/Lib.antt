@@ -1,2 +1,3 @@
--- Reading and writing settle their outcomes.
+-- The record at the front of a job, case by case; and reading and writing settle their outcomes.
+pub mod Laws
 pub mod Settled

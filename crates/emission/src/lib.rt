@@ -2,14 +2,36 @@
 // The terms are those of road/specs/Emission.antt, one function for each.
 #![tactic(auto)]
 
-ghost use Rattle.std.specs.Prelude.{◌≡◌, ◌+◌, ◌-◌, ◌*◌, ◌<◌, ◌≤◌, min, max, Ok};
-ghost use Rattle.road.specs.Emission.{traffic_term, car_level, truck_level, surface_column, surface_term, gradient_term, reflection_term};
+ghost use Rattle.std.specs.Prelude.{◌≡◌, ◌+◌, ◌-◌, ◌*◌, ◌<◌, ◌≤◌, min, Ok};
+ghost use Rattle.road.specs.Emission.{traffic_term, car_speed, truck_speed, car_level, truck_level, surface_column, surface_term, gradient_term, reflection_term};
 ghost use Rattle.road.specs.Reach.{length_term, walls_term};
 ghost use Rattle.road.specs.Limits.{longest, last_surface, last_reflection, most_vehicles, all_trucks};
 ghost use Rattle.road.specs.Judge.{source_verdict};
 ghost use Rattle.road.specs.Inner.{pace_of, speed_by, steady_term, voice_by, voices_of, sent_of};
 
 use road::{Pace, Sent, Source, Term, Traffic, Voice};
+use std::marker::Model;
+
+// A source that sends: what it sends is worked out once, for all points.
+// The source is allowed, and what is sent is what it sends.
+#[derive(Drop)]
+pub struct Sender {
+    sent: Sent,
+    source: Source,
+}
+
+impl Model for Sender {
+    ghost use Rattle.std.specs.Prelude.{◌≡◌, Ok};
+    ghost use Rattle.road.specs.declared.Source.{Source};
+    ghost use Rattle.road.specs.Judge.{source_verdict};
+    ghost use Rattle.road.specs.Inner.{sent_of};
+
+    ghost Value = { Source };
+
+    ghost view = { λ p. p.source };
+
+    ghost invariant = { λ p. (source_verdict p.source ≡ Ok tt) × (p.sent ≡ sent_of p.source) };
+}
 
 // How many surfaces and how many codes of reflection there are.
 pub const SURFACES: usize = 9;
@@ -57,6 +79,20 @@ pub fn traffic(lanes: u8, t: Traffic) -> Term
     }
 }
 
+// The speed of cars, brought into range.
+pub fn car_speed(written: u8) -> u64
+    ensures { result ≡ car_speed written }
+{
+    u64::from(written).clamp(30, 130)
+}
+
+// The speed of trucks, brought into range.
+pub fn truck_speed(written: u8) -> u64
+    ensures { result ≡ truck_speed written }
+{
+    u64::from(written).clamp(30, 80)
+}
+
 // One car an hour.
 pub fn car_level(v: u64) -> u32
     requires { v ≤ 130 }
@@ -84,8 +120,8 @@ pub fn pace_of(s: Source) -> Pace
     requires { source_verdict s ≡ Ok tt }
     ensures { result ≡ pace_of s }
 {
-    let car = car_level(u64::from(s.car).clamp(30, 130));
-    let truck = truck_level(u64::from(s.truck).clamp(30, 80));
+    let car = car_level(car_speed(s.car));
+    let truck = truck_level(truck_speed(s.truck));
     let gain = level::energy(truck - car) - 1000000;
     Pace { car, gain }
 }
@@ -128,12 +164,12 @@ fn surface(kind: u8, v: u64) -> Term
 }
 
 // Section 3.5.4: gradient.
+#[tactic(auto, unfolding(road::specs::Emission::gradient_term))]
 pub fn gradient(g: u8) -> u32
     ensures { result ≡ (gradient_term g).up }
 {
     let steep = u32::from(g % SIGN);
-    let counts = 50 < steep;
-    if counts { 6 * steep - 300 } else { 0 }
+    6 * steep.saturating_sub(50)
 }
 
 // Table 7: reflection.
@@ -163,7 +199,7 @@ fn steady_of(s: Source) -> Term
     requires { source_verdict s ≡ Ok tt }
     ensures { result ≡ steady_term s }
 {
-    let on = surface(s.surface, u64::from(s.car).clamp(30, 130));
+    let on = surface(s.surface, car_speed(s.car));
     let up = on.up + gradient(s.gradient) + walls(s.walls, s.height, s.spacing);
     let down = on.down + reflection(s.reflection);
     Term { up, down }
@@ -224,5 +260,30 @@ pub fn send(s: Source) -> Sent
         voices,
         whole,
         length,
+    }
+}
+
+// A source that is allowed, with what it sends.
+pub fn sends(s: Source) -> Sender
+    requires { source_verdict s ≡ Ok tt }
+    ensures { result ≡ s }
+{
+    let sent = send(s);
+    Sender { sent, source: s }
+}
+
+impl Sender {
+    // The source, which is allowed.
+    pub fn source(&self) -> Source
+        ensures { (result ≡ self.now) × (source_verdict self.now ≡ Ok tt) }
+    {
+        self.source
+    }
+
+    // What it sends.
+    pub fn sent(&self) -> Sent
+        ensures { result ≡ sent_of self.now }
+    {
+        self.sent
     }
 }

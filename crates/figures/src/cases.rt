@@ -9,7 +9,9 @@ ghost use Rattle.road.specs.Figures.{home};
 use crate::print;
 use answer::Refusal;
 use course::{Course, Ends, Piece};
-use road::{Bar, Receiver, Shares, Source, Term, Traffic};
+use ledger::round;
+use road::{Receiver, Shares, Source, Term, Traffic};
+use screen::Walls;
 
 // The point.
 pub fn point() -> Receiver
@@ -90,23 +92,12 @@ fn way(rt: &HostRuntime, names: &[u8], x: u32)
     print::number(rt, names, 3, u64::from(ground));
 }
 
-// The refusal of a pair that is barred, with the slot 0.
-fn barred(bar: Bar) -> Refusal {
-    match bar {
-        Bar::Near => Refusal::TooNear(0),
-        Bar::Far => Refusal::TooFar(0),
-        Bar::Long => Refusal::TooLong(0),
-        Bar::Loud => Refusal::TooLoud(0),
-        Bar::Walls => Refusal::TwoWalls(0),
-    }
-}
-
-// A road at the point, with no wall anywhere: its fields are judged, and then the pair. The shares, or why they are refused.
+// A road at the point, with no wall anywhere: its fields are judged, and then the pair. The shares, or why they are refused, with the slot 0.
 fn meet(s: Source) -> Result<Shares, Refusal>
     ensures { (h : Shares) → result ≡ Ok h → pair_of [] s home ≡ Ok h }
 {
     judge::judge_source(s)?;
-    reach::pair(&[], s, emission::send(s), point()).map_err(barred)
+    reach::pair(&Walls::of(&[]), &emission::sends(s), point()).map_err(|bar| round::bar_at(0, bar))
 }
 
 // What speed gives, for the road's two speeds.

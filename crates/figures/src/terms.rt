@@ -1,6 +1,5 @@
 // The figures on levels and on each term by itself.
 // Speeds go through the range that they are brought into.
-ghost use Rattle.std.specs.Prelude.{◌≡◌};
 
 use crate::print;
 use road::{Term, Traffic};
@@ -40,8 +39,12 @@ fn speeds(rt: &HostRuntime) {
     print::number(rt, names, 0, u64::from(emission::car_level(100)));
     print::number(rt, names, 1, u64::from(emission::car_level(50)));
     print::number(rt, names, 2, u64::from(emission::truck_level(80)));
-    let brought = 100u64.clamp(30, 80);
-    print::number(rt, names, 3, u64::from(emission::truck_level(brought)));
+    print::number(
+        rt,
+        names,
+        3,
+        u64::from(emission::truck_level(emission::truck_speed(100))),
+    );
     let gain = Term {
         up: emission::truck_level(30),
         down: emission::car_level(130),

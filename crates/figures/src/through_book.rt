@@ -4,12 +4,12 @@ use crate::{cases, print};
 use book::{Answer, Reply};
 use index::Index;
 
-// An index, in tenths of a dB: L_DEN, or L_Night.
-fn tenths(rt: &HostRuntime, names: &[u8], k: usize, which: usize, i: Index) {
+// An index, in tenths of a dB, and what it is called.
+fn tenths(rt: &HostRuntime, names: &[u8], k: usize, called: &[u8], i: Index) {
     print::name(rt, names, k);
     match i {
         None => print::text(rt, b"quiet\n"),
-        Some(n) => print::number(rt, b"L_DEN \nL_Night \n", which, u64::from(n)),
+        Some(n) => print::number(rt, called, 0, u64::from(n)),
     }
 }
 
@@ -18,8 +18,8 @@ fn told(rt: &HostRuntime, names: &[u8], k: usize, a: Answer) {
     match a {
         Ok(Reply::Done) => print::word(rt, names, k, b"accepted\n"),
         Ok(Reply::Levels(den, night)) => {
-            tenths(rt, names, k, 0, den);
-            tenths(rt, names, k, 1, night);
+            tenths(rt, names, k, b"L_DEN \n", den);
+            tenths(rt, names, k, b"L_Night \n", night);
         }
         Err(why) => print::refusal_at(rt, names, k, why),
     }

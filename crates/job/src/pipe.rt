@@ -14,6 +14,7 @@ use std::io::Read;
 const TURNS: u64 = 140737488355328;
 
 // The bytes at hand: from one place of the input to another, and whether the input is over or could not be read.
+// Two places, here and in `Stand`, and no range, which could not be copied: `Follows` of specs/Job.antt speaks of both.
 // Flags and no error, here and in `Last` and `End`: `Follows`, `Ended` and `Ran` of specs/Job.antt promise the rest in each case.
 #[derive(Clone, Copy)]
 pub struct Hand {
@@ -145,17 +146,33 @@ fn turn(rt: &HostRuntime, store: &mut [u8], input: &mut [u8], output: &mut [u8],
     advance(rt, store, input, output, hand, x)
 }
 
+// Why a listing is not whole.
+#[derive(Clone, Copy)]
+enum Fault {
+    Unread,
+    Unwritten,
+    Endless,
+}
+
+// Why the turns of a job came to no end: no turn fails twice.
+fn fault_of(s: Stand) -> Fault {
+    match s {
+        Stand { unread: true, .. } => Fault::Unread,
+        Stand {
+            unwritten: true,
+            ..
+        } => Fault::Unwritten,
+        _ => Fault::Endless,
+    }
+}
+
 // Says on standard error what went wrong.
-fn complain(rt: &HostRuntime, unread: bool, unwritten: bool) {
-    if unread {
-        let _ = rt.eprintln("job: standard input cannot be read");
-    }
-    if unwritten {
-        let _ = rt.eprintln("job: standard output cannot be written");
-    }
-    if !unread & !unwritten {
-        let _ = rt.eprintln("job: the job is too long");
-    }
+fn complain(rt: &HostRuntime, fault: Fault) {
+    let _ = rt.eprintln(match fault {
+        Fault::Unread => "job: standard input cannot be read",
+        Fault::Unwritten => "job: standard output cannot be written",
+        Fault::Endless => "job: the job is too long",
+    });
 }
 
 // The last line.
@@ -166,7 +183,7 @@ fn finish(rt: &HostRuntime, output: &mut [u8], count: u64) -> Last
     let wrote = listing::end_line(count, output);
     let told = rt.write_all(&output[..wrote]).is_ok();
     if !told {
-        complain(rt, false, true);
+        complain(rt, Fault::Unwritten);
     }
     Last { wrote, told }
 }
@@ -203,7 +220,7 @@ pub fn run(rt: &HostRuntime, store: &mut [u8], input: &mut [u8], output: &mut [u
         }
         s = turn(rt, store, input, output, s);
     }
-    complain(rt, s.unread, s.unwritten);
+    complain(rt, fault_of(s));
     End {
         whole: false,
         over: s.over,

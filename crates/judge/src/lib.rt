@@ -27,8 +27,8 @@ const LENGTH: Row = Row {
 fn quiet_truck(s: Source) -> bool
     ensures { result ≡ quiet_truck s }
 {
-    let car = emission::car_level(u64::from(s.car).clamp(30, 130));
-    let truck = emission::truck_level(u64::from(s.truck).clamp(30, 80));
+    let car = emission::car_level(emission::car_speed(s.car));
+    let truck = emission::truck_level(emission::truck_speed(s.truck));
     truck < car
 }
 
@@ -36,7 +36,7 @@ fn quiet_truck(s: Source) -> bool
 fn slow_surface(s: Source) -> bool
     ensures { result ≡ slow_surface s }
 {
-    let speed = u64::from(s.car).clamp(30, 130);
+    let speed = emission::car_speed(s.car);
     5 <= s.surface && speed <= 60
 }
 

@@ -1,2 +1,3 @@
--- The public functions settle their outcomes.
+-- Laws of kinds and their numbers; and the public functions settle their outcomes.
+pub mod Laws
 pub mod Settled

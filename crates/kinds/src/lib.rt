@@ -1,5 +1,5 @@
 // The kinds of record: the layout of each, its call, which calls are allowed, and the fields of a call.
-// A new kind is a new row of `row` and a new arm of each match.
+// A new kind is a new variant of `Kind`; then the check asks for its row in `row` and for its arm in each match.
 #![tactic(auto)]
 
 ghost use Rattle.std.specs.Prelude.{◌≡◌, ◌∷◌, ◌++◌, ◌+◌, ◌≤◌, ◌<◌, length};
@@ -9,10 +9,50 @@ ghost use Rattle.road.specs.Judge.{source_fields};
 ghost use Rattle.request.specs.declared.Request.TheVariants.{PlaceSource};
 ghost use Rattle.request.specs.Kinds as kinds;
 ghost use Rattle.request.specs.Inner.{filled, shape_of};
+ghost use Rattle.kinds.specs.Kind.{number_of, kind_named};
+ghost use Rattle.kinds.specs.declared.Kind.TheVariants.{PlaceUncut, PlaceDaily, PlaceBetween};
 
 use course::{Course, Piece};
 use request::{Counts, Request, Shape};
 use road::{Source, Traffic, Verdict};
+
+// A kind of record, by the number that its records begin with.
+#[derive(Clone, Copy)]
+pub enum Kind {
+    PlaceReceiver = 1,
+    WithdrawReceiver = 2,
+    // a source by its middle and its length
+    PlaceUncut = 3,
+    WithdrawSource = 4,
+    Ask = 5,
+    // one by its daily figure
+    PlaceDaily = 6,
+    // one by its ends
+    PlaceBetween = 7,
+    PlaceWall = 8,
+    WithdrawWall = 9,
+}
+
+impl Kind {
+    // The kind that a number names, if it is the number of one.
+    #[tactic(auto, unfolding(crate::specs::Kind::kind_named))]
+    pub fn of(number: u64) -> Option<Kind>
+        ensures { result ≡ kind_named number }
+    {
+        match number {
+            1 => Some(Kind::PlaceReceiver),
+            2 => Some(Kind::WithdrawReceiver),
+            3 => Some(Kind::PlaceUncut),
+            4 => Some(Kind::WithdrawSource),
+            5 => Some(Kind::Ask),
+            6 => Some(Kind::PlaceDaily),
+            7 => Some(Kind::PlaceBetween),
+            8 => Some(Kind::PlaceWall),
+            9 => Some(Kind::WithdrawWall),
+            _ => None,
+        }
+    }
+}
 
 // What every record begins with, in bits: its kind, and the slot of a source, of a receiver or of a wall.
 pub const KIND_BITS: u8 = 4;
@@ -139,36 +179,35 @@ const AFTER_ENDS: usize = FIRST + fields::ENDS_ROWS;
 // How many a road has with its daily figure.
 const FIGURES: usize = fields::ROAD_ROWS + daily::DAILY_ROWS;
 
-// The widths of a kind, how many fields it has, and how many bytes; none where it is not listed.
-// By its number: it is read from a record, and may be that of no kind.
-fn row(kind: usize) -> (&'static [u8], usize, usize)
-    ensures { (result.0.now ≡ layout_of kind) × (result.1 ≡ (kind_at kind).fields) × (result.2 ≡ size (layout_of kind)) }
+// The widths of a kind, how many fields it has, and how many bytes.
+#[tactic(auto, unfolding(request::specs::Kinds::kind_at))]
+fn row(kind: Kind) -> (&'static [u8], usize, usize)
+    ensures { (result.0.now ≡ layout_of (number_of kind)) × (result.1 ≡ (kind_at (number_of kind)).fields) × (result.2 ≡ size (layout_of (number_of kind))) }
 {
     match kind {
-        1 => (&PLACE_RECEIVER, 1 + fields::RECEIVER_ROWS, 9),
-        2 => (&RECEIVER_SLOT, 1, 2),
-        3 => (
+        Kind::PlaceReceiver => (&PLACE_RECEIVER, 1 + fields::RECEIVER_ROWS, 9),
+        Kind::WithdrawReceiver => (&RECEIVER_SLOT, 1, 2),
+        Kind::PlaceUncut => (
             &PLACE_UNCUT,
             1 + fields::PIECE_ROWS + fields::SOURCE_ROWS,
             30,
         ),
-        4 => (&WITHDRAW_SOURCE, 1, 2),
-        5 => (&RECEIVER_SLOT, 1, 2),
-        6 => (&PLACE_DAILY, 1 + fields::PIECE_ROWS + FIGURES, 20),
-        7 => (
+        Kind::WithdrawSource => (&WITHDRAW_SOURCE, 1, 2),
+        Kind::Ask => (&RECEIVER_SLOT, 1, 2),
+        Kind::PlaceDaily => (&PLACE_DAILY, 1 + fields::PIECE_ROWS + FIGURES, 20),
+        Kind::PlaceBetween => (
             &PLACE_BETWEEN,
             1 + fields::ENDS_ROWS + fields::SOURCE_ROWS,
             34,
         ),
-        8 => (&PLACE_WALL, 1 + fields::WALL_ROWS, 15),
-        9 => (&WITHDRAW_WALL, 1, 2),
-        _ => (&[], 0, 0),
+        Kind::PlaceWall => (&PLACE_WALL, 1 + fields::WALL_ROWS, 15),
+        Kind::WithdrawWall => (&WITHDRAW_WALL, 1, 2),
     }
 }
 
-// The sizes of a kind's layout; all 0 where it is not listed.
-pub fn shape_of(kind: usize) -> Shape
-    ensures { result ≡ shape_of kind }
+// The sizes of a kind's layout.
+pub fn shape_of(kind: Kind) -> Shape
+    ensures { result ≡ shape_of (number_of kind) }
 {
     let (widths, fields, bytes) = row(kind);
     Shape {
@@ -178,33 +217,33 @@ pub fn shape_of(kind: usize) -> Shape
     }
 }
 
-// The layout of a kind; empty where it is not listed.
-pub fn layout_of(kind: usize) -> &'static [u8]
-    ensures { result.now ≡ layout_of kind }
+// The layout of a kind.
+pub fn layout_of(kind: Kind) -> &'static [u8]
+    ensures { result.now ≡ layout_of (number_of kind) }
 {
     row(kind).0
 }
 
 // What the fields of a kind ask for.
-pub fn call(kind: usize, v: &[u64]) -> Request
-    requires { (0 < size (layout_of kind)) × Within (layout_of kind) v.now }
-    ensures { result ≡ call_in kind v.now }
+#[tactic(auto, unfolding(request::specs::Kinds::kind_at))]
+pub fn call(kind: Kind, v: &[u64]) -> Request
+    requires { Within (layout_of (number_of kind)) v.now }
+    ensures { result ≡ call_in (number_of kind) v.now }
 {
     let slot = v[1] as u16;
     match kind {
-        1 => Request::PlaceReceiver(slot, fields::receiver_of(v, FIRST)),
-        2 => Request::WithdrawReceiver(slot),
-        3 => Request::PlaceSource(slot, Counts::ByPeriod),
-        4 => Request::WithdrawSource(slot),
-        6 => {
+        Kind::PlaceReceiver => Request::PlaceReceiver(slot, fields::receiver_of(v, FIRST)),
+        Kind::WithdrawReceiver => Request::WithdrawReceiver(slot),
+        Kind::PlaceUncut | Kind::PlaceBetween => Request::PlaceSource(slot, Counts::ByPeriod),
+        Kind::WithdrawSource => Request::WithdrawSource(slot),
+        Kind::Ask => Request::Ask(slot),
+        Kind::PlaceDaily => {
             let p = fields::piece_of(v, FIRST);
             let d = daily::daily_of(&v[AFTER_PIECE..AFTER_PIECE + FIGURES]);
             Request::PlaceSource(slot, Counts::ByDay(p, d))
         }
-        7 => Request::PlaceSource(slot, Counts::ByPeriod),
-        8 => Request::PlaceWall(slot, fields::wall_of(v, FIRST)),
-        9 => Request::WithdrawWall(slot),
-        _ => Request::Ask(slot),
+        Kind::PlaceWall => Request::PlaceWall(slot, fields::wall_of(v, FIRST)),
+        Kind::WithdrawWall => Request::WithdrawWall(slot),
     }
 }
 
@@ -219,6 +258,7 @@ fn judge_counts(counts: Counts, source: Source) -> Verdict
 }
 
 // Which calls are allowed.
+#[tactic(auto, unfolding(request::specs::Kinds::verdict_of))]
 pub fn verdict(call: Request, source: Source) -> Verdict
     ensures { result ≡ verdict_of call source }
 {
@@ -243,37 +283,37 @@ pub fn verdict(call: Request, source: Source) -> Verdict
 }
 
 // The kind of a record that places a source with its counts by period.
-fn course_kind(course: Course) -> usize
-    ensures { result ≡ course_kind course }
+fn course_kind(course: Course) -> Kind
+    ensures { number_of result ≡ course_kind course }
 {
     match course {
-        Course::Uncut(_) => 3,
-        Course::Between(_) => 7,
+        Course::Uncut(_) => Kind::PlaceUncut,
+        Course::Between(_) => Kind::PlaceBetween,
     }
 }
 
 // And with its counts however they are told.
-fn counts_kind(counts: Counts, source: Source) -> usize
-    ensures { result ≡ counts_kind counts source }
+fn counts_kind(counts: Counts, source: Source) -> Kind
+    ensures { number_of result ≡ counts_kind counts source }
 {
     match counts {
         Counts::ByPeriod => course_kind(source.course),
-        Counts::ByDay(_, _) => 6,
+        Counts::ByDay(_, _) => Kind::PlaceDaily,
     }
 }
 
 // The kind of a call.
-pub fn number(call: Request, source: Source) -> usize
-    ensures { result ≡ kind_number call source }
+pub fn kind_of(call: Request, source: Source) -> Kind
+    ensures { number_of result ≡ kind_number call source }
 {
     match call {
-        Request::PlaceReceiver(_, _) => 1,
-        Request::WithdrawReceiver(_) => 2,
+        Request::PlaceReceiver(_, _) => Kind::PlaceReceiver,
+        Request::WithdrawReceiver(_) => Kind::WithdrawReceiver,
         Request::PlaceSource(_, counts) => counts_kind(counts, source),
-        Request::WithdrawSource(_) => 4,
-        Request::Ask(_) => 5,
-        Request::PlaceWall(_, _) => 8,
-        Request::WithdrawWall(_) => 9,
+        Request::WithdrawSource(_) => Kind::WithdrawSource,
+        Request::Ask(_) => Kind::Ask,
+        Request::PlaceWall(_, _) => Kind::PlaceWall,
+        Request::WithdrawWall(_) => Kind::WithdrawWall,
     }
 }
 
@@ -302,63 +342,68 @@ pub fn blank() -> Source
     }
 }
 
-// The source of kind 3, by its middle and its length.
+// A source by its middle and its length.
 fn uncut_source(v: &[u64]) -> Source
-    requires { Within (layout_of 3) v.now }
-    ensures { result ≡ source_in 3 v.now }
+    requires { Within (layout_of (number_of PlaceUncut)) v.now }
+    ensures { result ≡ source_in (number_of PlaceUncut) v.now }
 {
     let course = Course::Uncut(fields::piece_of(v, FIRST));
-    let s = fields::source_of(course, v, AFTER_PIECE);
-    s
+    fields::source_of(course, v, AFTER_PIECE)
 }
 
-// The one that kind 6 stands for.
+// The one that a daily figure stands for.
 fn daily_source(v: &[u64]) -> Source
-    requires { Within (layout_of 6) v.now }
-    ensures { result ≡ source_in 6 v.now }
+    requires { Within (layout_of (number_of PlaceDaily)) v.now }
+    ensures { result ≡ source_in (number_of PlaceDaily) v.now }
 {
     let course = Course::Uncut(fields::piece_of(v, FIRST));
     daily::source_of(course, &v[AFTER_PIECE..AFTER_PIECE + FIGURES])
 }
 
-// The source of kind 7, by its ends.
+// A source by its ends.
 fn ends_source(v: &[u64]) -> Source
-    requires { Within (layout_of 7) v.now }
-    ensures { result ≡ source_in 7 v.now }
+    requires { Within (layout_of (number_of PlaceBetween)) v.now }
+    ensures { result ≡ source_in (number_of PlaceBetween) v.now }
 {
     let course = Course::Between(fields::ends_of(v, FIRST));
     fields::source_of(course, v, AFTER_ENDS)
 }
 
 // The source beside the call that the fields of a kind ask for.
-pub fn source(kind: usize, v: &[u64]) -> Source
-    requires { Within (layout_of kind) v.now }
-    ensures { result ≡ source_in kind v.now }
+#[tactic(auto, unfolding(request::specs::Kinds::kind_at))]
+pub fn source(kind: Kind, v: &[u64]) -> Source
+    requires { Within (layout_of (number_of kind)) v.now }
+    ensures { result ≡ source_in (number_of kind) v.now }
 {
     match kind {
-        3 => uncut_source(v),
-        6 => daily_source(v),
-        7 => ends_source(v),
-        _ => blank(),
+        Kind::PlaceUncut => uncut_source(v),
+        Kind::PlaceDaily => daily_source(v),
+        Kind::PlaceBetween => ends_source(v),
+        Kind::PlaceReceiver
+        | Kind::WithdrawReceiver
+        | Kind::WithdrawSource
+        | Kind::Ask
+        | Kind::PlaceWall
+        | Kind::WithdrawWall => blank(),
     }
 }
 
 // A kind, a slot and the fields after it, with zeros after them.
-fn join(kind: u64, slot: u16, fields: &[u64]) -> [u64; 25]
+fn join(kind: Kind, slot: u16, fields: &[u64]) -> [u64; 25]
     requires { length fields.now ≤ 23 }
-    ensures { result ≡ filled (kind ∷ slot ∷ fields.now) }
+    ensures { result ≡ filled (number_of kind ∷ slot ∷ fields.now) }
 {
     let mut v = [0u64; 25];
-    v[0] = kind;
+    v[0] = kind as u64;
     v[1] = u64::from(slot);
     layout::lay(fields, &mut v, FIRST);
     v
 }
 
 // A kind, a slot, a course and the fields after it, with zeros after them.
-fn join_course(kind: u64, slot: u16, course: &[u64], fields: &[u64]) -> [u64; 25]
+fn join_course(kind: Kind, slot: u16, course: &[u64], fields: &[u64]) -> [u64; 25]
     requires { length course.now + length fields.now ≤ 23 }
-    ensures { result ≡ filled (kind ∷ slot ∷ (course.now ++ fields.now)) }
+    ensures { result ≡ filled (number_of kind ∷ slot ∷ (course.now ++ fields.now)) }
 {
     let mut v = join(kind, slot, course);
     layout::lay(fields, &mut v, FIRST + course.len());
@@ -366,6 +411,7 @@ fn join_course(kind: u64, slot: u16, course: &[u64], fields: &[u64]) -> [u64; 25
 }
 
 // The kind, the fields and the leftover bits of a source that is placed on a course, with zeros after them.
+#[tactic(auto, unfolding(request::specs::Inner::filled))]
 fn placed_fields(slot: u16, course: Course, source: Source) -> [u64; 25]
     ensures { result ≡ filled (placed_fields course slot (source_fields source)) }
 {
@@ -373,16 +419,17 @@ fn placed_fields(slot: u16, course: Course, source: Source) -> [u64; 25]
     match course {
         Course::Uncut(p) => {
             let values = fields::piece_values(p);
-            join_course(3, slot, &values, &fields)
+            join_course(Kind::PlaceUncut, slot, &values, &fields)
         }
         Course::Between(e) => {
             let values = fields::ends_values(e);
-            join_course(7, slot, &values, &fields)
+            join_course(Kind::PlaceBetween, slot, &values, &fields)
         }
     }
 }
 
 // And of one however its traffic is told.
+#[tactic(auto, unfolding(request::specs::Inner::filled))]
 fn source_fields(slot: u16, counts: Counts, source: Source) -> [u64; 25]
     ensures { result ≡ filled (fields_of (PlaceSource slot counts) source) }
 {
@@ -391,12 +438,13 @@ fn source_fields(slot: u16, counts: Counts, source: Source) -> [u64; 25]
         Counts::ByDay(p, d) => {
             let values = fields::piece_values(p);
             let fields = daily::values(d, source);
-            join_course(6, slot, &values, &fields[..FIGURES])
+            join_course(Kind::PlaceDaily, slot, &values, &fields[..FIGURES])
         }
     }
 }
 
 // And of a call. Leftover bits may be the first of the zeros.
+#[tactic(auto, unfolding(request::specs::Inner::filled))]
 pub fn fields_of(call: Request, source: Source) -> [u64; 25]
     ensures { result ≡ filled (fields_of call source) }
 {
@@ -404,16 +452,16 @@ pub fn fields_of(call: Request, source: Source) -> [u64; 25]
     match call {
         Request::PlaceReceiver(slot, r) => {
             let fields = fields::receiver_values(r);
-            join(1, slot, &fields)
+            join(Kind::PlaceReceiver, slot, &fields)
         }
-        Request::WithdrawReceiver(slot) => join(2, slot, &leftover),
+        Request::WithdrawReceiver(slot) => join(Kind::WithdrawReceiver, slot, &leftover),
         Request::PlaceSource(slot, counts) => source_fields(slot, counts, source),
-        Request::WithdrawSource(slot) => join(4, slot, &leftover),
-        Request::Ask(slot) => join(5, slot, &leftover),
+        Request::WithdrawSource(slot) => join(Kind::WithdrawSource, slot, &leftover),
+        Request::Ask(slot) => join(Kind::Ask, slot, &leftover),
         Request::PlaceWall(slot, w) => {
             let fields = fields::wall_values(w);
-            join(8, slot, &fields)
+            join(Kind::PlaceWall, slot, &fields)
         }
-        Request::WithdrawWall(slot) => join(9, slot, &leftover),
+        Request::WithdrawWall(slot) => join(Kind::WithdrawWall, slot, &leftover),
     }
 }

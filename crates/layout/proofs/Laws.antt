@@ -1,7 +1,7 @@
 -- The laws of records: what is written and read again, over any layout. Assumes nothing.
 use Prim.Native.Nat.{ℕ, zero, suc, ◌+◌, ◌-◌, ◌*◌, ◌/◌, ◌%◌, ◌^◌, ◌≤◌, ◌<◌}
 use mathlib.Core.Path.{◌≡◌, refl, sym, ap, ap₂, ◌∙◌, subst}
-use mathlib.Core.Bool.{true, false, ◌&&◌}
+use mathlib.Core.Bool.{true, ◌&&◌}
 use mathlib.Core.List.{List, [], ◌∷◌, ◌++◌, append-nil}
 use native.Mathlib.Nat.{mod-eq_of_lt, le_refl, not-suc-le-zero, le_of_suc-le-suc}
 use native.Mathlib.Numerals.{add-one}
@@ -158,7 +158,3 @@ field_bits ws s i h l b k =
     let e : sum (take i ws) + get_or ws i 0 + sum (drop (i + 1) ws) ≡ 8 * size ws =
     rw add-one (omega (arith, sized_whole ws h, ap sum (split_at ws i 0 k), sum_append (take i ws) (get_or ws i 0 ∷ drop (suc i) ws))) in
     nth ws (num (take (size ws) s)) i k ∙ sym (bits_take s (sum (take i ws)) (get_or ws i 0) (sum (drop (i + 1) ws)) (size ws) b l e)
-
--- where no bytes are known to be to spare, a reader asks for none
-pub none_spare : {P : Type 0} → false ≡ true → P
-none_spare e = absurd (let z : ◌≡◌ {A = ℕ} 0 1 = cc in omega arith)

@@ -3,8 +3,8 @@ use Prim.Native.Nat.{ℕ, suc, ◌+◌, ◌-◌, ◌*◌, ◌/◌, ◌%◌, ◌^
 use mathlib.Core.Path.{◌≡◌, refl, sym, ap, ap₂, ◌∙◌}
 use mathlib.Core.Bool.{Bool, true, false, ◌&&◌}
 use mathlib.Core.List.{List, [], ◌∷◌, ◌++◌, append_assoc, append-nil}
-use native.Mathlib.Nat.{mod-eq_of_lt, mod-lt, lt_of_lt_of_le, mul_assoc, add-mul, add_assoc, add-zero, zero-mul, one-mul, sub-zero}
-use native.Mathlib.Numerals.{add-one}
+use native.Mathlib.Nat.{mod-eq_of_lt, mod-lt, lt_of_lt_of_le, mul_assoc, add-mul, add_assoc, zero-mul, one-mul, sub-zero}
+use native.Mathlib.Numerals.{add-one, unary_clauses}
 use native.Mathlib.Omega.{arith}
 use borrow.Author.Tests.{leb-true}
 use Rattle.std.proofs.lemmas.Bool.{ltb-false}
@@ -12,14 +12,15 @@ use lib.Arith.{digits_lt}
 use lib.Dec.{leb}
 use lib.ListN.{length, get_or, take, drop, set, length-take, length-drop}
 use lib.Pow.{pow_pos, pow_mono, pow-add, split, shl_exact}
-use lib.Seq.{drop-cons, drop-length, take-length, get_or-drop, take-suc-set}
-use Rattle.std.specs.Int.{w64, from_be_bytes}
-use Rattle.std.specs.Prelude.{zero, nat_lt, cond}
+use lib.Seq.{drop-cons, drop-length, take-length, take-suc-set}
+use Rattle.std.specs.Int.{w64, from_be_bytes, to_be_bytes, byte_at, bytes_high_first}
+use Rattle.std.specs.Prelude.{zero, nat_lt, cond, ◌⊎◌}
+use Rattle.std.proofs.Common.{inl, inr, take-take, length-take-le}
 use Rattle.layout.specs.Layout.{sum, pack, unpack, Within, Bytes, num, bytes_of, bits, size, sized, narrow, fields, packed}
 use Rattle.layout.specs.Over.{over}
 use Rattle.layout.proofs.Packing.{pack_lt}
 use Rattle.layout.proofs.Numbers.{num_lt, num_none, num_snoc, bytes_take, bytes_of_cons, bytes_of_none, bytes_of_append, length_bytes_of, bits_take}
-use Rattle.layout.proofs.Writes.{over_cons, over_none, over_next, length_over}
+use Rattle.layout.proofs.Writes.{over_none, over_next, length_over}
 use Rattle.layout.proofs.Bounds.{both}
 use Rattle.layout.proofs.Laws.{sized_narrow, sized_whole, length_packed}
 
@@ -31,21 +32,15 @@ pub number_lt : (t : List ℕ) (i : ℕ) → Bytes t → i ≤ 7 → num (take i
 number_lt t i b h =
     lt_of_lt_of_le (num_lt (take i t) (bytes_take i t b)) (pow_mono {i = 8 * length (take i t)} {j = 56} (rw length-take (omega arith)))
 
--- `eight`: bytes read at once are bytes read one by one
-pub number_eight : (s : List ℕ) (at : ℕ) → at + 8 ≤ length s
-    → from_be_bytes w64
-    (get_or s at 0 ∷ get_or s (at + 1) 0 ∷ get_or s (at + 2) 0 ∷ get_or s (at + 3) 0 ∷ get_or s (at + 4) 0 ∷ get_or s (at + 5) 0
-    ∷ get_or s (at + 6) 0 ∷ get_or s (at + 7) 0 ∷ [])
-    ≡ num (take 8 (drop at s))
-number_eight s at h =
-    let t = drop at s in
-    let room : 8 ≤ length t = rw length-drop (omega arith) in
-    let next : (i : ℕ) → i < 8 → num (take (i + 1) t) ≡ num (take i t) * 256 + get_or s (at + i) 0 =
-    λ i l. num_snoc t i (omega arith) ∙ ap (λ (x : ℕ). num (take i t) * 256 + x) (get_or-drop at s i 0) in
+-- `field`: bytes read at once are bytes read one by one
+pub number_eight : (t : List ℕ) → length t ≡ 8 → from_be_bytes w64 t ≡ num t
+number_eight t e =
+    let next : (i : ℕ) → i < 8 → num (take (i + 1) t) ≡ num (take i t) * 256 + get_or t i 0 = λ i l. num_snoc t i (omega (arith, e)) in
+    let all : num (take 8 t) ≡ num t = ap num (ap (λ (k : ℕ). take k t) (sym e) ∙ take-length t) in
     omega (
       arith,
       num_none,
-      ap (λ (k : ℕ). get_or s k 0) (add-zero at),
+      all,
       next 0 (omega arith),
       next 1 (omega arith),
       next 2 (omega arith),
@@ -56,15 +51,43 @@ number_eight s at h =
       next 7 (omega arith),
     )
 
--- `put_number`: a byte less is left
-pub number_put : (s t : List ℕ) (i left x : ℕ) → i < length s → 1 ≤ left → over i (bytes_of left x) s ≡ t
-    → over (i + 1) (bytes_of (left - 1) x) (set s i (x / 2 ^ (8 * (left - 1)) % 256)) ≡ t
-number_put s t i left x h l e =
-    let k : suc (left - 1) ≡ left = omega arith in
-    sym (over_cons i (x / 2 ^ (8 * (left - 1)) % 256) (bytes_of (left - 1) x) s h)
-    ∙ ap (λ (u : List ℕ). over i u s) (sym (bytes_of_cons (left - 1) x))
-    ∙ ap (λ (n : ℕ). over i (bytes_of n x) s) k ∙ e
+-- the first eight bytes of what follows a place
+pub eight_front : (s t : List ℕ) (at : ℕ) → 8 ≤ length (take (length s - at) (drop at s)) → t ≡ take 8 (take (length s - at) (drop at s))
+    → from_be_bytes w64 t ≡ num (take 8 (drop at s))
+eight_front s t at h e =
+    let l : 8 ≤ length s - at = omega (arith, rw length-take at h) in
+    let f : t ≡ take 8 (drop at s) = e ∙ take-take 8 (length s - at) (drop at s) l in
+    number_eight t (ap length f ∙ length-take-le 8 (drop at s) (omega (arith, l, length-drop at s))) ∙ ap num f
 
+-- `put_number`: the last n of the eight bytes of a number
+bytes_high : (k : ℕ) → 256 ^ k ≡ 2 ^ (8 * k)
+bytes_high zero = refl
+bytes_high (suc k) =
+    let e : 8 * suc k ≡ 8 * k + 8 = omega arith in
+    rw (e, pow-add) (simp unary_clauses (ap (λ (y : ℕ). y * 256) (bytes_high k)))
+
+byte_of : (k x : ℕ) → byte_at k x ≡ x / 2 ^ (8 * k) % 256
+byte_of zero x = omega arith
+byte_of (suc k) x = ap (λ (y : ℕ). x / y % 256) (bytes_high (suc k))
+
+high_first : (k x : ℕ) → bytes_high_first k x ≡ bytes_of k x
+high_first zero x = sym (bytes_of_none x)
+high_first (suc k) x = ap₂ (λ (y : ℕ) (t : List ℕ). y ∷ t) (byte_of k x) (high_first k x) ∙ sym (bytes_of_cons k x)
+
+last_bytes : (j k x : ℕ) → drop j (bytes_of (j + k) x) ≡ bytes_of k x
+last_bytes zero k x = ap (λ (n : ℕ). bytes_of n x) (omega arith)
+last_bytes (suc j) k x =
+    let e : suc j + k ≡ suc (j + k) = omega arith in
+    ap (λ (n : ℕ). drop (suc j) (bytes_of n x)) e ∙ ap (drop (suc j)) (bytes_of_cons (j + k) x) ∙ last_bytes j k x
+
+pub number_bytes : (n x : ℕ) → n ≤ 8 → take (8 - (8 - n)) (drop (8 - n) (to_be_bytes w64 x)) ≡ bytes_of n x
+number_bytes n x h =
+    let e : 8 ≡ 8 - n + n = omega arith in
+    let f : 8 - (8 - n) ≡ length (bytes_of n x) = omega (arith, length_bytes_of n x) in
+    ap₂ take f (ap (drop (8 - n)) (high_first 8 x ∙ ap (λ (k : ℕ). bytes_of k x) e) ∙ last_bytes (8 - n) n x)
+    ∙ take-length (bytes_of n x)
+
+-- where nothing is left to write, it is written
 pub number_done : (s t : List ℕ) (i left x : ℕ) → left ≤ 0 → over i (bytes_of left x) s ≡ t → s ≡ t
 number_done s t i left x h e =
     let k : left ≡ 0 = omega arith in
@@ -149,17 +172,17 @@ taken_all {s} {ws} {vs} {at} {i} t e f =
     ∙ append-nil vs)
     ∙ t.so_far
 
--- `put_fields`, after i fields and at bytes, with the have bits of acc in hand: to write these and the fields that are left is to write the record
-pub record Sent (out₀ ws vs out : List ℕ) (at have acc i : ℕ) : Type 0 where
-  pub room : 8 * at + (have + sum (drop i ws)) ≡ sum ws
-  pub slim : narrow have (drop i ws) ≡ true
+-- `put_fields`, after at bytes, with the have bits of acc in hand: to write these and the fields gs that are left, of widths us, is to write the record
+pub record Sent (out₀ ws vs out : List ℕ) (at have acc : ℕ) (us gs : List ℕ) : Type 0 where
+  pub room : 8 * at + (have + sum us) ≡ sum ws
+  pub slim : narrow have us ≡ true
   pub part : have < 8
   pub small : acc < 2 ^ have
-  pub fit : Within (drop i ws) (drop i vs)
+  pub fit : Within us gs
   pub same : length out ≡ length out₀
-  pub to_come : over at (bytes_of (size ws - at) (acc * 2 ^ sum (drop i ws) + pack (drop i ws) (drop i vs))) out ≡ over 0 (packed ws vs) out₀
+  pub to_come : over at (bytes_of (size ws - at) (acc * 2 ^ sum us + pack us gs)) out ≡ over 0 (packed ws vs) out₀
 
-pub sent_none : {out ws vs : List ℕ} → sized ws ≡ true → Within ws vs → Sent out ws vs out 0 0 0 0
+pub sent_none : {out ws vs : List ℕ} → sized ws ≡ true → Within ws vs → Sent out ws vs out 0 0 0 ws vs
 unfolding packed
 sent_none {out} {ws} {vs} h f =
     let e : 0 * 2 ^ sum ws + pack ws vs ≡ pack ws vs = omega (arith, zero-mul (2 ^ sum ws)) in
@@ -183,71 +206,71 @@ spill acc w v t p h =
     simp (pow-add, add-mul, mul_assoc, add_assoc) in
     a ∙ ap (λ (y : ℕ). y * 2 ^ t + p) (sym (split x h)) ∙ sym b
 
-pub sent_room : {out₀ ws vs out : List ℕ} {at have acc i w : ℕ} → Sent out₀ ws vs out at have acc i → i < length ws → w ≡ get_or ws i 0
-    → (1 ≤ w) × (have + w ≤ 64) × (8 * at + (have + w) ≤ sum ws)
-sent_room {ws = ws} {have = have} {i = i} t h e =
-    let n = narrow_next ws i h have t.slim in
-    (omega arith, omega arith, omega (arith, sum_next ws i h))
+-- a turn, in which the width w and the value v are next
+module _ {out₀ ws vs out : List ℕ} {at have acc : ℕ} {us gs : List ℕ} (t : Sent out₀ ws vs out at have acc us gs)
+    {w v : ℕ} {us' gs' : List ℕ} (e : us ≡ w ∷ us') (f : gs ≡ v ∷ gs') where
+  pub sent_room : (1 ≤ w) × (have + w ≤ 64) × (8 * at + (have + w) ≤ sum ws)
+  sent_room =
+      let n = narrow_here have w us' (ap (narrow have) (sym e) ∙ t.slim) in
+      (n.0, n.1, omega (arith, t.room, ap sum e))
 
-pub sent_small : {out₀ ws vs out : List ℕ} {at have acc i w v : ℕ} → Sent out₀ ws vs out at have acc i → i < length ws → length vs ≡ length ws
-    → w ≡ get_or ws i 0 → v ≡ get_or vs i 0 → acc * 2 ^ w + v < 2 ^ (have + w)
-sent_small {ws = ws} {vs} {have = have} {acc} {i} {w} {v} t hi l e f =
-    let k : i < length vs = omega arith in
-    let g : Within (drop i ws) (drop i vs) = t.fit in
-    let b : get_or vs i 0 < 2 ^ get_or ws i 0 = (rw (next ws i hi, next vs i k) at g).0 in
-    rw (pow-add, e, f) (digits_lt t.small b)
+  next_fit : (v < 2 ^ w) × Within us' gs'
+  next_fit =
+      let g : Within us gs = t.fit in
+      rw (e, f) at g
 
--- the bits in hand and the next field make a number of a word
-pub sent_word : {out₀ ws vs out : List ℕ} {at have acc i w y : ℕ} → Sent out₀ ws vs out at have acc i → i < length ws → length vs ≡ length ws
-    → w ≡ get_or ws i 0 → y ≡ cond (nat_lt w 64) (acc * 2 ^ w % 2 ^ 64) 0 → (y ≡ acc * 2 ^ w) × (acc * 2 ^ w + get_or vs i 0 < 2 ^ 64)
-sent_word {acc = acc} {w = w} t hi l e f =
-    let small = lt_of_lt_of_le (sent_small t hi l e refl) (pow_mono {j = 64} (sent_room t hi e).1) in
-    (f ∙ shl_whole acc w (omega (arith, small)), small)
+  sent_small : acc * 2 ^ w + v < 2 ^ (have + w)
+  sent_small = rw pow-add (digits_lt t.small next_fit.0)
 
-pub sent_more : {out₀ ws vs out : List ℕ} {at have acc i w v x n h : ℕ} → Sent out₀ ws vs out at have acc i
-    → sized ws ≡ true → size ws ≤ length out₀ → i < length ws → length vs ≡ length ws
-    → w ≡ get_or ws i 0 → v ≡ get_or vs i 0 → x ≡ acc * 2 ^ w + v → n ≡ (have + w) / 8 → h ≡ (have + w) % 8
-    → Sent out₀ ws vs (over at (bytes_of n (x / 2 ^ h)) out) (at + n) h (x % 2 ^ h) (i + 1)
-sent_more {out₀} {ws} {vs} {out} {at} {have} {acc} {i} {w} {v} {x} {n} {h} t z l hi lv e f g en eh =
-    let us = drop (i + 1) ws in
-    let gs = drop (i + 1) vs in
-    let k = size ws - (at + n) in
-    let b = bytes_of n (x / 2 ^ h) in
-    let m = x % 2 ^ h * 2 ^ sum us + pack us gs in
-    let hv : i < length vs = omega arith in
-    let nws : drop i ws ≡ w ∷ us = next ws i hi ∙ ap (λ (y : ℕ). y ∷ us) (sym e) in
-    let nvs : drop i vs ≡ v ∷ gs = next vs i hv ∙ ap (λ (y : ℕ). y ∷ gs) (sym f) in
-    let fit' : Within (drop i ws) (drop i vs) = t.fit in
-    let fit : Within us gs = (rw (nws, nvs) at fit').1 in
-    let a : sum (drop i ws) ≡ w + sum us = ap sum nws in
-    let whole : 8 * size ws ≡ sum ws = sized_whole ws z in
-    let lb : length b ≡ n = length_bytes_of n (x / 2 ^ h) in
-    let u : 8 * k ≡ h + sum us = omega arith in
-    let c : size ws - at ≡ n + k = omega arith in
-    let lt : m < 2 ^ (8 * k) = rw (u, pow-add) (digits_lt (mod-lt x (pow_pos h)) (pack_lt us gs fit)) in
-    let all : acc * 2 ^ sum (drop i ws) + pack (drop i ws) (drop i vs) ≡ x / 2 ^ h * 2 ^ (8 * k) + m =
-    rw (nws, nvs, g, u) (spill acc w v (sum us) (pack us gs) h) in
-    record {
-      room = omega arith;
-      slim = rw (eh, e) (narrow_next ws i hi have t.slim).2;
-      part = omega arith;
-      small = mod-lt x (pow_pos h);
-      fit = fit;
-      same = length_over at b out (omega arith) (omega arith) ∙ t.same;
-      to_come =
-          ap (λ (y : ℕ). over (at + y) (bytes_of k m) (over at b out)) (sym lb)
-          ∙ over_next at b out (omega arith) (bytes_of k m)
-          ∙ ap (λ (y : List ℕ). over at y out) (sym (bytes_of_append n k (x / 2 ^ h) m lt))
-          ∙ ap₂ (λ (j y : ℕ). over at (bytes_of j y) out) (sym c) (sym all)
-          ∙ t.to_come;
-    }
+  -- the bits in hand and the next field make a number of a word
+  pub sent_word : {y : ℕ} → y ≡ cond (nat_lt w 64) (acc * 2 ^ w % 2 ^ 64) 0 → (y ≡ acc * 2 ^ w) × (acc * 2 ^ w + v < 2 ^ 64)
+  sent_word h =
+      let small = lt_of_lt_of_le sent_small (pow_mono {j = 64} sent_room.1) in
+      (h ∙ shl_whole acc w (omega (arith, small)), small)
 
-pub sent_all : {out₀ ws vs out : List ℕ} {at have acc i : ℕ} → Sent out₀ ws vs out at have acc i → sized ws ≡ true → i ≡ length ws
-    → out ≡ packed ws vs ++ drop (size ws) out₀
+  pub sent_more : {x n h : ℕ} → sized ws ≡ true → size ws ≤ length out₀ → x ≡ acc * 2 ^ w + v → n ≡ (have + w) / 8 → h ≡ (have + w) % 8
+      → Sent out₀ ws vs (over at (bytes_of n (x / 2 ^ h)) out) (at + n) h (x % 2 ^ h) us' gs'
+  sent_more {x} {n} {h} z l g en eh =
+      let k = size ws - (at + n) in
+      let b = bytes_of n (x / 2 ^ h) in
+      let m = x % 2 ^ h * 2 ^ sum us' + pack us' gs' in
+      let whole : 8 * size ws ≡ sum ws = sized_whole ws z in
+      let lb : length b ≡ n = length_bytes_of n (x / 2 ^ h) in
+      let r : 8 * at + (have + sum us) ≡ sum ws = t.room in
+      let a : sum us ≡ w + sum us' = ap sum e in
+      let u : 8 * k ≡ h + sum us' = omega arith in
+      let c : size ws - at ≡ n + k = omega arith in
+      let lt : m < 2 ^ (8 * k) = rw (u, pow-add) (digits_lt (mod-lt x (pow_pos h)) (pack_lt us' gs' next_fit.1)) in
+      let all : acc * 2 ^ sum us + pack us gs ≡ x / 2 ^ h * 2 ^ (8 * k) + m = rw (e, f, g, u) (spill acc w v (sum us') (pack us' gs') h) in
+      let same' : length out ≡ length out₀ = t.same in
+      record {
+        room = omega arith;
+        slim = rw eh (narrow_here have w us' (ap (narrow have) (sym e) ∙ t.slim)).2;
+        part = omega arith;
+        small = mod-lt x (pow_pos h);
+        fit = next_fit.1;
+        same = length_over at b out (omega arith) (omega arith) ∙ t.same;
+        to_come =
+            ap (λ (y : ℕ). over (at + y) (bytes_of k m) (over at b out)) (sym lb)
+            ∙ over_next at b out (omega arith) (bytes_of k m)
+            ∙ ap (λ (y : List ℕ). over at y out) (sym (bytes_of_append n k (x / 2 ^ h) m lt))
+            ∙ ap₂ (λ (j y : ℕ). over at (bytes_of j y) out) (sym c) (sym all)
+            ∙ t.to_come;
+      }
+
+-- where the widths or the values run out, both have: the record is written
+none_left_of : (us gs : List ℕ) → Within us gs → (length us ≡ 0) ⊎ (length gs ≡ 0) → sum us ≡ 0
+none_left_of [] gs f e = refl
+none_left_of (u ∷ us) [] f e = elim f [ ]
+none_left_of (u ∷ us) (g ∷ gs) f (inl e) = absurd (omega (arith, e))
+none_left_of (u ∷ us) (g ∷ gs) f (inr e) = absurd (omega (arith, e))
+
+pub sent_all : {out₀ ws vs out : List ℕ} {at have acc : ℕ} {us gs : List ℕ} → Sent out₀ ws vs out at have acc us gs → sized ws ≡ true
+    → (length us ≡ 0) ⊎ (length gs ≡ 0) → out ≡ packed ws vs ++ drop (size ws) out₀
 unfolding over
-sent_all {out₀} {ws} {vs} {out} {at} {have} {acc} {i} t z e =
-    let a : sum (drop i ws) ≡ 0 = ap sum (ap (λ (k : ℕ). drop k ws) e ∙ drop-length ws) in
-    let b : size ws - at ≤ 0 = omega (arith, sized_whole ws z) in
+sent_all {out₀} {ws} {vs} {out} {at} {have} {acc} {us} {gs} t z e =
+    let a : sum us ≡ 0 = none_left_of us gs t.fit e in
+    let b : size ws - at ≤ 0 = omega (arith, sized_whole ws z, t.room) in
     let c : 0 + length (packed ws vs) ≡ size ws = omega (arith, length_packed ws vs) in
     number_done out (over 0 (packed ws vs) out₀) at (size ws - at) _ b t.to_come
     ∙ ap (λ (k : ℕ). packed ws vs ++ drop k out₀) c

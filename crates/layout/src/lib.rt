@@ -2,7 +2,7 @@
 // A layout is a list of widths in bits; the first field stands highest, and the bytes are one big-endian number.
 #![tactic(auto)]
 
-ghost use Rattle.std.specs.Prelude.{◌≡◌, true, ◌++◌, ◌+◌, ◌*◌, ◌/◌, ◌^◌, ◌%◌, ◌≤◌, ◌<◌, length, take, drop};
+ghost use Rattle.std.specs.Prelude.{◌≡◌, true, ◌++◌, ◌+◌, ◌*◌, ◌/◌, ◌%◌, ◌≤◌, ◌<◌, length, take, drop};
 ghost use Rattle.layout.specs.Layout.{num, bytes_of, bits, size, sized, fields, packed, Within};
 ghost use Rattle.layout.specs.Bounds.{first_outside};
 ghost use Rattle.layout.specs.Over.{over};
@@ -19,56 +19,34 @@ pub fn number(s: &[u8], at: usize, n: usize) -> u64
     acc
 }
 
-// The number of the eight bytes of s from index at on, read at once.
-fn eight(s: &[u8], at: usize) -> u64
-    requires { at + 8 ≤ length s.now }
-    ensures { result ≡ num (take 8 (drop at s.now)) }
-{
-    u64::from_be_bytes([
-        s[at],
-        s[at + 1],
-        s[at + 2],
-        s[at + 3],
-        s[at + 4],
-        s[at + 5],
-        s[at + 6],
-        s[at + 7],
-    ])
-}
-
-// The n bits of s from bit at on.
+// The n bits of s from bit at on: out of eight bytes read at once, where there are so many, and else out of those that hold them.
 pub fn field(s: &[u8], at: usize, n: usize) -> u64
     requires { (1 ≤ n) × (at % 8 + n ≤ 64) × (at + n ≤ 8 * length s.now) }
     ensures { result ≡ bits at n s.now }
 {
+    let first = at / 8;
     let r = at % 8;
+    if let Some(eight) = s[first..].first_chunk::<8>() {
+        let x = u64::from_be_bytes(*eight);
+        return (x << r) >> (64 - n);
+    }
     let k = (r + n + 7) / 8;
-    let x = number(s, at / 8, k);
+    let x = number(s, first, k);
     let up = 64 - 8 * k + r;
     (x << up) >> (64 - n)
 }
 
-// The same, out of eight bytes read at once where there are bytes to spare.
-fn one_field(s: &[u8], at: usize, n: usize, spare: bool) -> u64
-    requires { (1 ≤ n) × (at % 8 + n ≤ 64) × (at + n ≤ 8 * length s.now) × (spare ≡ true → at / 8 + 8 ≤ length s.now) }
-    ensures { result ≡ bits at n s.now }
-{
-    if spare {
-        return (eight(s, at / 8) << (at % 8)) >> (64 - n);
-    }
-    field(s, at, n)
-}
-
-// Reads the fields of the record at the front of s into vs: quicker where seven bytes to spare are known to follow the record.
-pub fn take_fields(s: &[u8], ws: &[u8], vs: &mut [u64], spare: bool)
+// Reads the fields of the record at the front of s into vs.
+pub fn take_fields(s: &[u8], ws: &[u8], vs: &mut [u64])
     requires ws_value { sized ws.now ≡ true }
-    requires ws_in_bounds { (size ws.now ≤ length s.now) × (length vs.old ≡ length ws.now) × (spare ≡ true → size ws.now + 7 ≤ length s.now) }
+    requires ws_in_bounds { (size ws.now ≤ length s.now) × (length vs.old ≡ length ws.now) }
     ensures { vs.new ≡ fields ws.now s.now }
 {
+    // By index: at the end of a zip with iter_mut nothing is known of what was written.
     let mut at = 0;
     for (i, w) in ws.iter().enumerate() {
         let n = usize::from(*w);
-        vs[i] = one_field(s, at, n, spare);
+        vs[i] = field(s, at, n);
         at += n;
     }
 }
@@ -78,13 +56,8 @@ pub fn put_number(out: &mut [u8], at: usize, n: usize, x: u64)
     requires { (n ≤ 8) × (at + n ≤ length out.old) }
     ensures { out.new ≡ over at (bytes_of n x) out.old }
 {
-    // By hand: i is counted, since at + n - 1 - left for it took a twelfth more time for a record.
-    let mut i = at;
-    for left in (0..n).rev() {
-        let b = (x >> (8 * left)) % 256;
-        out[i] = b as u8;
-        i += 1;
-    }
+    let bytes = x.to_be_bytes();
+    out[at..at + n].copy_from_slice(&bytes[8 - n..]);
 }
 
 // Writes the record of the fields vs at the front of out. The have bits of acc wait for the rest of their byte.
@@ -96,8 +69,8 @@ pub fn put_fields(out: &mut [u8], ws: &[u8], vs: &[u64])
     let mut done = 0;
     let mut have = 0;
     let mut acc: u64 = 0;
-    for (i, w) in ws.iter().enumerate() {
-        let x = acc.unbounded_shl(u32::from(*w)) + vs[i];
+    for (w, v) in ws.iter().zip(vs) {
+        let x = acc.unbounded_shl(u32::from(*w)) + *v;
         let w = usize::from(*w);
         let n = (have + w) / 8;
         have = (have + w) % 8;

@@ -14,7 +14,6 @@ use Rattle.road.proofs.Fit.{fit_wall}
 use Rattle.store.specs.Slots.{Each}
 use Rattle.store.specs.Store.{WallStands}
 use Rattle.ledger.specs.Lists.{present}
-use Rattle.ledger.specs.Ledger.{Fenced}
 
 -- ---- the loop: the first n walls are those of the first i slots
 
@@ -52,7 +51,10 @@ all_on_plan [] h = All-nil WallOnPlan
 all_on_plan (none ∷ l) h = all_on_plan l (λ i. h (suc i))
 all_on_plan (some w ∷ l) h = All-cons WallOnPlan w (present l) (fit_wall w (h 0 w refl)) (all_on_plan l (λ i. h (suc i)))
 
-pub fenced : (l : List (Option Wall)) (walls : List Wall) (n i : ℕ) → Each WallStands l → length l ≤ i → Laying l walls n i → Fenced (present l) (take n walls)
-fenced l walls n i h m g =
-    let e : take n walls ≡ present l = g.first ∙ ap present (take_all i l m) in
-    record { walls = e; on_plan = subst AllOnPlan (sym e) (all_on_plan l h) }
+-- after the last slot
+module _ (l : List (Option Wall)) (walls : List Wall) (n i : ℕ) (m : length l ≤ i) (g : Laying l walls n i) where
+  pub laying_all : take n walls ≡ present l
+  laying_all = g.first ∙ ap present (take_all i l m)
+
+  pub laying_on_plan : Each WallStands l → AllOnPlan (take n walls)
+  laying_on_plan h = subst AllOnPlan (sym laying_all) (all_on_plan l h)

@@ -9,10 +9,7 @@ use Rattle.ledger.proofs
 bar_at_settled : SettlesResult proofs.round.bar_at.Reads.Post
 bar_at_settled l a = settled _ _
 
--- a source on a round, what sources bring, and what a round comes to
-sends_settled : SettlesResult proofs.round.sends.Reads.Post
-sends_settled l a = settled _ _
-
+-- what sources bring, and what a round comes to
 gather_settled : SettlesResult proofs.gather.gather.Reads.Post
 gather_settled l a = settled _ _
 
@@ -20,11 +17,11 @@ go_round_settled : SettlesResult proofs.round.go_round.Reads.Post
 go_round_settled l a = settled _ _
 
 -- the walls that are lent
-standing_settled : Settles (λ l a r e. r.now) proofs.fences.standing.Reads.Post
-standing_settled l a x y p q = p.walls ∙ sym q.walls
+standing_settled : SettlesResult proofs.fences.standing.Reads.Post
+standing_settled l a = settled _ _
 
-changed_settled : Settles (λ l a r e. r.now) proofs.fences.changed.Reads.Post
-changed_settled l a x y p q = p.walls ∙ sym q.walls
+changed_settled : SettlesResult proofs.fences.changed.Reads.Post
+changed_settled l a = settled _ _
 
 -- the book that the seats leave
 write_seats_settled : Settles (λ l a r e. book_of e.0.now) proofs.round.write_seats.Reads.Post

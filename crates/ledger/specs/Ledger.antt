@@ -11,16 +11,12 @@ use Rattle.road.specs.declared.Bar.{Bar}
 use Rattle.road.specs.declared.Shares.{Shares}
 use Rattle.road.specs.Results.{Pair}
 use Rattle.road.specs.Pairs.{Pairing, most_share}
-use Rattle.road.specs.Judge.{source_verdict, receiver_verdict}
-use Rattle.road.specs.Inner.{sent_of}
+use Rattle.road.specs.Judge.{receiver_verdict}
 use Rattle.level.specs.Level.{top}
-use Rattle.screen.specs.declared.Wall.{Wall}
-use Rattle.screen.specs.Screen.{AllOnPlan}
 use Rattle.account.specs.declared.Account.{Account}
 use Rattle.store.specs.declared.Held.{Held}
 use Rattle.account.specs.Account.{plus_of, nothing}
 use Rattle.store.specs.Store.{receiver_count, Book, book, Seat, WallSlot, HeldStands, WallStands}
-use Rattle.ledger.specs.declared.round.Sender.{Sender}
 use Rattle.ledger.specs.declared.round.Turn.{Turn}
 use Rattle.ledger.specs.declared.round.Turn.TheVariants.{Moved, Barred, Late}
 use Rattle.ledger.specs.declared.Tally.{Tally}
@@ -28,19 +24,6 @@ use Rattle.ledger.specs.Lists.{omap, present, every, bar_at, first_bar, weigh}
 use Rattle.ledger.specs.Changes.{Change, follow, bar_of, exchanged, exchanges}
 
 -- ---- one receiver
-
--- a source on its round; and nobody
-abbrev pub sender : Source → Sender
-sender s = record { sent = sent_of s; source = s }
-
--- the source of a sender, if there is one; and that one which is there is allowed, and sends what its source does
-abbrev pub source_of : Maybe Sender → Option Source
-source_of None = none
-source_of (Some p) = some p.source
-
-abbrev pub Sends : Maybe Sender → Type 0
-Sends None = Unit {0}
-Sends (Some p) = (source_verdict p.source ≡ Ok tt) × (p.sent ≡ sent_of p.source)
 
 -- the account after the shares of a pair are exchanged for others
 abbrev pub exchanged_by : Pair → Shares → Account → Turn
@@ -174,12 +157,6 @@ blocked_or j (Some b) o = some (bar_at j b)
 unfoldable pub first_block : ℕ → List Tally → Option Refusal
 first_block j [] = none
 first_block j (t ∷ ts) = blocked_or j t.block (first_block (suc j) ts)
-
--- ---- the walls that are lent: those walls, and each lies on the plan
-
-pub record Fenced (ws l : List Wall) : Type 0 where
-  pub walls : l ≡ ws
-  pub on_plan : AllOnPlan l
 
 -- a wall that is to stand may, if there is one
 abbrev pub WallMayStand : WallSlot → Type 0

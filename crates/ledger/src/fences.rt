@@ -4,10 +4,10 @@ ghost use Rattle.std.proofs.Math.Option.{none};
 ghost use Rattle.store.specs.Slots.{entry};
 ghost use Rattle.store.specs.Store.{wall_count, damaged, book_of};
 ghost use Rattle.ledger.specs.Lists.{present};
-ghost use Rattle.ledger.specs.Ledger.{Fenced, WallMayStand};
+ghost use Rattle.ledger.specs.Ledger.{WallMayStand};
 
 use course::Ends;
-use screen::Wall;
+use screen::{Wall, Walls};
 
 // What is in the room for walls before they are gathered: no wall that stands.
 pub const BLANK: Wall = Wall {
@@ -28,26 +28,28 @@ fn slot_at(store: &[u8], k: usize, changes: usize, other: Option<Wall>) -> Optio
     if k == changes {
         return other;
     }
-    store::walls::wall_slot(store, k)
+    store::read(store, k)
 }
 
 // Gathers the standing walls as they are, and lends them.
-pub fn standing<'a>(store: &[u8], room: &'a mut [Wall; store::WALLS]) -> &'a [Wall]
+pub fn standing<'a>(store: &[u8], room: &'a mut [Wall; store::WALLS]) -> Walls<'a>
     requires { damaged store.now ≡ false }
-    ensures { Fenced (present (book_of store.now).walls) result.now }
+    ensures { result ≡ present (book_of store.now).walls }
 {
     changed(store, store::WALLS, None, room)
 }
 
 // Gathers them as they would be with the wall w in slot k, or with nothing in it, and lends them.
+// A clause on w, and no type for a wall that may stand: three functions of one path hand it on, and the store and the callers have plain walls.
+// `n` is counted by hand: with no heap there is nothing to collect into, and a `zip` with `room.iter_mut()` tells no proof what it writes.
 pub fn changed<'a>(
     store: &[u8],
     k: usize,
     w: Option<Wall>,
     room: &'a mut [Wall; store::WALLS],
-) -> &'a [Wall]
+) -> Walls<'a>
     requires { (damaged store.now ≡ false) × WallMayStand w }
-    ensures { Fenced (present (set (book_of store.now).walls k (entry w))) result.now }
+    ensures { result ≡ present (set (book_of store.now).walls k (entry w)) }
 {
     let mut n = 0;
     for i in 0..store::WALLS {
@@ -56,5 +58,5 @@ pub fn changed<'a>(
             n += 1;
         }
     }
-    &room[..n]
+    Walls::of(&room[..n])
 }

@@ -1,27 +1,21 @@
 // The round of the receivers for a source that goes and one that comes: what each account would be, before a byte is written.
 // The first pass works every share out once and keeps the seats as they would be; the second pass writes them.
 ghost use Rattle.std.specs.Prelude.{◌≡◌, false, ◌<◌, Ok};
-ghost use Rattle.screen.specs.Screen.{AllOnPlan};
-ghost use Rattle.road.specs.Judge.{source_verdict, receiver_verdict};
+ghost use Rattle.road.specs.Judge.{receiver_verdict};
 ghost use Rattle.road.specs.Reach.{pair_of};
+ghost use Rattle.store.specs.Slots.{entry};
 ghost use Rattle.store.specs.Store.{receiver_count, damaged, book_of, book_bytes, book};
 ghost use Rattle.ledger.specs.Lists.{bar_at};
 ghost use Rattle.ledger.specs.Changes.{exchange, pair_by};
-ghost use Rattle.ledger.specs.Ledger.{sender, source_of, Sends, exchanged_by, turn_of, rounded, settled, seated, SeatStands, StandingSeats};
+ghost use Rattle.ledger.specs.Ledger.{exchanged_by, turn_of, rounded, settled, seated, SeatStands, StandingSeats};
 
 use crate::Seat;
 use account::Account;
 use answer::Refusal;
-use road::{Bar, Pair, Receiver, Sent, Shares, Source};
-use screen::Wall;
+use emission::Sender;
+use road::{Bar, Pair, Receiver, Shares};
+use screen::Walls;
 use store::Held;
-
-// A source on a round of the receivers, with what it sends, which is worked out once. Nobody on a round is `None`.
-#[derive(Clone, Copy)]
-pub struct Sender {
-    pub sent: Sent,
-    pub source: Source,
-}
 
 // What becomes of a receiver's account.
 // By hand: an Option or a Result has two cases, and here are three.
@@ -45,27 +39,14 @@ pub fn bar_at(slot: u16, bar: Bar) -> Refusal
     }
 }
 
-// A source on its round.
-pub fn sends(s: Source) -> Sender
-    requires { source_verdict s ≡ Ok tt }
-    ensures { result ≡ sender s }
-{
-    let sent = emission::send(s);
-    Sender { sent, source: s }
-}
-
-// What somebody on a round brings to a point, and what nobody does.
-fn heard_at(walls: &[Wall], from: Option<Sender>, r: Receiver) -> Pair
-    requires { Sends from × (receiver_verdict r ≡ Ok tt) × AllOnPlan walls.now }
-    ensures { result ≡ pair_by (pair_of walls.now) (source_of from) r }
+// What somebody on a round brings to a point, and what nobody does, who is `None`.
+fn heard_at(walls: &Walls, from: &Option<Sender>, r: Receiver) -> Pair
+    requires { receiver_verdict r ≡ Ok tt }
+    ensures { result ≡ pair_by (pair_of walls.now) (entry from.now) r }
 {
     match from {
-        Some(sender) => reach::pair(walls, sender.source, sender.sent, r),
-        None => Ok(Shares {
-            day: 0,
-            evening: 0,
-            night: 0,
-        }),
+        Some(sender) => reach::pair(walls, sender, r),
+        None => Ok(Shares::default()),
     }
 }
 
@@ -90,9 +71,9 @@ fn exchanged(sums: Account, goes: Pair, more: Shares) -> Turn
 }
 
 // What becomes of a receiver: the source that comes is asked for first.
-fn meet(walls: &[Wall], x: Held, goes: Option<Sender>, comes: Option<Sender>) -> Turn
-    requires { Sends goes × Sends comes × (receiver_verdict x.who ≡ Ok tt) × AllOnPlan walls.now }
-    ensures { result ≡ turn_of (exchange (pair_of walls.now) (source_of goes) (source_of comes)) x }
+fn meet(walls: &Walls, x: Held, goes: &Option<Sender>, comes: &Option<Sender>) -> Turn
+    requires { receiver_verdict x.who ≡ Ok tt }
+    ensures { result ≡ turn_of (exchange (pair_of walls.now) (entry goes.now) (entry comes.now)) x }
 {
     match heard_at(walls, comes, x.who) {
         Err(bar) => Turn::Barred(bar),
@@ -103,18 +84,18 @@ fn meet(walls: &[Wall], x: Held, goes: Option<Sender>, comes: Option<Sender>) ->
 // The first pass, among walls, from the lowest slot on.
 // A bar of any receiver is told before the late 1 of another.
 pub fn go_round(
-    walls: &[Wall],
+    walls: &Walls,
     store: &[u8],
-    goes: Option<Sender>,
-    comes: Option<Sender>,
+    goes: &Option<Sender>,
+    comes: &Option<Sender>,
 ) -> Result<[Seat; store::RECEIVERS], Refusal>
-    requires { (damaged store.now ≡ false) × Sends goes × Sends comes × AllOnPlan walls.now }
-    ensures { result ≡ rounded (exchange (pair_of walls.now) (source_of goes) (source_of comes)) (book_of store.now).receivers }
+    requires { damaged store.now ≡ false }
+    ensures { result ≡ rounded (exchange (pair_of walls.now) (entry goes.now) (entry comes.now)) (book_of store.now).receivers }
 {
     let mut seats = [None; store::RECEIVERS];
     let mut late = false;
     for (j, seat) in seats.iter_mut().enumerate() {
-        let Some(x) = store::receivers::seat(store, j) else {
+        let Some(x) = store::read::<Held, _>(store, j) else {
             continue;
         };
         match meet(walls, x, goes, comes) {
@@ -135,7 +116,7 @@ fn settle(store: &mut [u8], j: usize, seat: Seat)
     ensures { store.new ≡ book_bytes (settled seat j (book_of store.old)) }
 {
     if let Some(x) = seat {
-        store::receivers::put_held(store, j, x);
+        store::put(store, j, Some(x));
     }
 }
 

@@ -1,7 +1,9 @@
 -- Each public function of the listing, and of `text` below it, settles its outcome, where it ends and what is written: one line for each.
 -- Assumes nothing.
-use Rattle.answer.specs.Settled.{SettlesBoth}
+use mathlib.Core.Path.{◌≡◌, sym, ap, ◌∙◌}
+use Rattle.answer.specs.Settled.{Agree, SettlesBoth}
 use Rattle.answer.proofs.Settled.{settled}
+use Rattle.text.specs.declared.Page.{Page}
 use Rattle.text.proofs as text
 use Rattle.listing.proofs
 
@@ -17,11 +19,18 @@ end_line_settled l a = settled _ _
 line_settled : SettlesBoth (λ l a e. e.1.1.0.now) proofs.line.Reads.Post
 line_settled l a = settled _ _
 
-put_digits_settled : SettlesBoth (λ l a e. e.0.now) text.put_digits.Reads.Post
-put_digits_settled l a = settled _ _
+-- what a method gives back is nothing, so the page that it leaves is all that there is to see
+page_settled : {O : Type 0} (given : O → Unit) (left : O → Page) (p : Page) → Agree {S = Unit × Page} (λ (o : O). (given o, left o)) (λ (o : O). left o ≡ p)
+page_settled given left p x y a b = ap {B = Unit × Page} (λ (q : Page). (tt, q)) (a ∙ sym b)
 
-put_decimal_settled : SettlesBoth (λ l a e. e.0.now) text.put_decimal.Reads.Post
-put_decimal_settled l a = settled _ _
+text_settled : SettlesBoth (λ l a e. e.0.now) text.Page.text.Reads.Post
+text_settled l a = page_settled _ _ _
 
-put_text_settled : SettlesBoth (λ l a e. e.0.now) text.put_text.Reads.Post
-put_text_settled l a = settled _ _
+byte_settled : SettlesBoth (λ l a e. e.0.now) text.Page.byte.Reads.Post
+byte_settled l a = page_settled _ _ _
+
+digits_settled : SettlesBoth (λ l a e. e.0.now) text.Page.digits.Reads.Post
+digits_settled l a = page_settled _ _ _
+
+decimal_settled : SettlesBoth (λ l a e. e.0.now) text.Page.decimal.Reads.Post
+decimal_settled l a = page_settled _ _ _

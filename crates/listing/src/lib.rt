@@ -4,46 +4,47 @@
 
 ghost use Rattle.std.specs.Prelude.{◌≡◌, ◌∷◌, ◌++◌, ◌+◌, ◌≤◌, length, Some};
 ghost use Rattle.listing.specs.Listing.{two_digits, level_text, ask_line, refusal_line, end_line, line_of, put};
-ghost use Rattle.text.specs.Text.{written};
+ghost use Rattle.text.specs.Page.{HasRoom, put_on};
 
 use answer::Refusal;
 use index::Index;
 use service::{Outcome, Report};
+use text::Page;
 
 // The room that every line has.
-const LINE_ROOM: usize = 64;
+pub const LINE_ROOM: usize = 64;
 
 // Writes a mark and two digits, as R05 or E09 after a space.
-fn put_mark(out: &mut [u8], at: usize, mark: &[u8], x: u64) -> usize
-    requires { at + (length mark.now + 2) ≤ length out.old }
-    ensures { (result, out.new) ≡ written at (mark.now ++ two_digits x) out.old }
+fn put_mark(page: &mut Page, mark: &[u8], x: u64)
+    requires { HasRoom (length mark.now + 2) page.old }
+    ensures { page.new ≡ put_on (mark.now ++ two_digits x) page.old }
 {
-    let at = text::put_text(out, at, mark);
-    text::put_digits(out, at, 2, x)
+    page.text(mark);
+    page.digits(2, x);
 }
 
 // Writes a space and a level: the whole part, a point and one digit.
-fn put_tenths(out: &mut [u8], at: usize, tenths: u32) -> usize
-    requires { at + 21 ≤ length out.old }
-    ensures out_after { (result, out.new) ≡ written at (32 ∷ level_text (Some tenths)) out.old }
-    ensures upper_bound { result ≤ at + 12 }
+fn put_tenths(page: &mut Page, tenths: u32)
+    requires { HasRoom 21 page.old }
+    ensures page_after { page.new ≡ put_on (32 ∷ level_text (Some tenths)) page.old }
+    ensures upper_bound { page.new.at ≤ page.old.at + 12 }
 {
     let t = u64::from(tenths);
-    let at = text::put_text(out, at, b" ");
-    let at = text::put_decimal(out, at, t / 10);
-    let at = text::put_text(out, at, b".");
-    text::put_digits(out, at, 1, t)
+    page.text(b" ");
+    page.decimal(t / 10);
+    page.text(b".");
+    page.digits(1, t);
 }
 
 // Writes a space and an index.
-fn put_level(out: &mut [u8], at: usize, index: Index) -> usize
-    requires { at + 21 ≤ length out.old }
-    ensures out_after { (result, out.new) ≡ written at (32 ∷ level_text index) out.old }
-    ensures upper_bound { result ≤ at + 12 }
+fn put_level(page: &mut Page, index: Index)
+    requires { HasRoom 21 page.old }
+    ensures page_after { page.new ≡ put_on (32 ∷ level_text index) page.old }
+    ensures upper_bound { page.new.at ≤ page.old.at + 12 }
 {
     match index {
-        None => text::put_text(out, at, b" --.-"),
-        Some(tenths) => put_tenths(out, at, tenths),
+        None => page.text(b" --.-"),
+        Some(tenths) => put_tenths(page, tenths),
     }
 }
 
@@ -55,11 +56,13 @@ pub fn ask_line(n: u64, slot: u16, den: Index, night: Index, out: &mut [u8]) -> 
     if out.len() < LINE_ROOM {
         return 0;
     }
-    let at = text::put_decimal(out, 0, n);
-    let at = put_mark(out, at, b" R", u64::from(slot));
-    let at = put_level(out, at, den);
-    let at = put_level(out, at, night);
-    text::put_text(out, at, b"\n")
+    let mut page = Page { out, at: 0 };
+    page.decimal(n);
+    put_mark(&mut page, b" R", u64::from(slot));
+    put_level(&mut page, den);
+    put_level(&mut page, night);
+    page.text(b"\n");
+    page.at
 }
 
 // The line of record n that is refused. Gives the bytes written.
@@ -69,9 +72,11 @@ pub fn refusal_line(n: u64, why: Refusal, out: &mut [u8]) -> usize
     if out.len() < LINE_ROOM {
         return 0;
     }
-    let at = text::put_decimal(out, 0, n);
-    let at = put_mark(out, at, b" E", u64::from(answer::number(why)));
-    text::put_text(out, at, b"\n")
+    let mut page = Page { out, at: 0 };
+    page.decimal(n);
+    put_mark(&mut page, b" E", u64::from(answer::number(why)));
+    page.text(b"\n");
+    page.at
 }
 
 // The last line, after n records were tried. Gives the bytes written.
@@ -81,9 +86,11 @@ pub fn end_line(n: u64, out: &mut [u8]) -> usize
     if out.len() < LINE_ROOM {
         return 0;
     }
-    let at = text::put_text(out, 0, b"END ");
-    let at = text::put_decimal(out, at, n);
-    text::put_text(out, at, b"\n")
+    let mut page = Page { out, at: 0 };
+    page.text(b"END ");
+    page.decimal(n);
+    page.text(b"\n");
+    page.at
 }
 
 // The line of record n by its outcome; none where it is done. Gives the bytes written.

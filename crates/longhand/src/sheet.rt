@@ -1,14 +1,14 @@
 // How the root of a number is worked by hand, written as lines of text into the bytes that the caller lends.
 // The lines are in specs/Sheet.antt; the root itself and the step from line to line are the crate root's.
-ghost use Rattle.std.specs.Prelude.{◌≡◌, [], ◌∷◌, ◌+◌, ◌≤◌, ◌<◌, length};
+ghost use Rattle.std.specs.Prelude.{◌≡◌, ◌≤◌, ◌<◌, length};
 ghost use Rattle.root.specs.Root.{pairs_of};
 ghost use Rattle.longhand.specs.Sheet.{mark, columns, bits, blanks, short, first_line, row, term, last_line, sheet_of};
 ghost use Rattle.text.specs.Text.{written};
+ghost use Rattle.text.specs.Page.{HasRoom, put_on};
 ghost use Rattle.longhand.specs.Inner.{moved_right};
 
 use root::Line;
-
-// What is put is written from a place on, and each of these functions gives the place after it.
+use text::Page;
 
 // The last column of v: its last binary digit, or what stands for a leading zero.
 fn column(lead: u8, v: u64) -> u8
@@ -18,50 +18,44 @@ fn column(lead: u8, v: u64) -> u8
 }
 
 // The number v in w binary columns, the last of them first.
-fn put_columns(out: &mut [u8], at: usize, lead: u8, w: usize, v: u64) -> usize
-    requires { at + w ≤ length out.old }
-    ensures { (result, out.new) ≡ written at (columns lead w v) out.old }
+// By hand: of the bytes that a `for` over `iter_mut().rev()` writes the library says nothing, so no proof closes; forwards, they would be turned round after.
+fn put_columns(page: &mut Page, lead: u8, w: usize, v: u64)
+    requires { HasRoom w page.old }
+    ensures { page.new ≡ put_on (columns lead w v) page.old }
 {
+    let end = page.at + w;
+    let out = &mut page.out[page.at..end];
     let mut rest = v;
     for left in (0..w).rev() {
-        out[at + left] = column(lead, rest);
+        out[left] = column(lead, rest);
         rest /= 2;
     }
-    at + w
+    page.at = end;
 }
 
 // The number v in w binary digits.
-fn put_bits(out: &mut [u8], at: usize, w: usize, v: u64) -> usize
-    requires { at + w ≤ length out.old }
-    ensures { (result, out.new) ≡ written at (bits w v) out.old }
+fn put_bits(page: &mut Page, w: usize, v: u64)
+    requires { HasRoom w page.old }
+    ensures { page.new ≡ put_on (bits w v) page.old }
 {
-    put_columns(out, at, b'0', w, v)
+    put_columns(page, b'0', w, v);
 }
 
 // So many blanks.
-fn put_blanks(out: &mut [u8], at: usize, w: usize) -> usize
-    requires { at + w ≤ length out.old }
-    ensures { (result, out.new) ≡ written at (blanks w) out.old }
+fn put_blanks(page: &mut Page, w: usize)
+    requires { HasRoom w page.old }
+    ensures { page.new ≡ put_on (blanks w) page.old }
 {
-    put_columns(out, at, b' ', w, 0)
+    put_columns(page, b' ', w, 0);
 }
 
 // The number v at the right of w columns, without leading zeros.
-fn put_short(out: &mut [u8], at: usize, w: usize, v: u64) -> usize
-    requires { (1 ≤ w) × (at + w ≤ length out.old) }
-    ensures { (result, out.new) ≡ written at (short w v) out.old }
+fn put_short(page: &mut Page, w: usize, v: u64)
+    requires { (1 ≤ w) × HasRoom w page.old }
+    ensures { page.new ≡ put_on (short w v) page.old }
 {
-    let at = put_columns(out, at, b' ', w - 1, v / 2);
-    put_columns(out, at, b'0', 1, v)
-}
-
-// One byte.
-fn put_byte(out: &mut [u8], at: usize, b: u8) -> usize
-    requires { at + 1 ≤ length out.old }
-    ensures { (result, out.new) ≡ written at (b ∷ []) out.old }
-{
-    out[at] = b;
-    at + 1
+    put_columns(page, b' ', w - 1, v / 2);
+    put_columns(page, b'0', 1, v);
 }
 
 // How many pairs of bits q has, from the highest that is not zero.
@@ -72,48 +66,48 @@ fn pairs(q: u64) -> usize
 }
 
 // The first line: the number in binary, n pairs of bits.
-fn put_first(out: &mut [u8], n: usize, q: u64) -> usize
-    requires { (n ≤ 32) × (69 ≤ length out.old) }
-    ensures { (result, out.new) ≡ written 0 (first_line n q) out.old }
+fn put_first(page: &mut Page, n: usize, q: u64)
+    requires { (n ≤ 32) × HasRoom 69 page.old }
+    ensures { page.new ≡ put_on (first_line n q) page.old }
 {
-    let at = put_blanks(out, 0, 4);
-    let at = put_bits(out, at, 2 * n, q);
-    put_byte(out, at, b'\n')
+    put_blanks(page, 4);
+    put_bits(page, 2 * n, q);
+    page.byte(b'\n');
 }
 
 // Row i of n: the two bits brought down, what is left, and the root so far.
-fn put_row(out: &mut [u8], at: usize, n: usize, i: usize, two: u64, line: Line) -> usize
-    requires { (i ≤ n) × (n ≤ 32) × (at + 103 ≤ length out.old) }
-    ensures { (result, out.new) ≡ written at (row n i two line) out.old }
+fn put_row(page: &mut Page, n: usize, i: usize, two: u64, line: Line)
+    requires { (i ≤ n) × (n ≤ 32) × HasRoom 103 page.old }
+    ensures { page.new ≡ put_on (row n i two line) page.old }
 {
-    let at = put_bits(out, at, 2, two);
-    let at = put_short(out, at, 2 * i + 2, line.left);
-    let at = put_blanks(out, at, 2 * (n - i) + 2);
-    let at = put_bits(out, at, i, line.root);
-    put_byte(out, at, b'\n')
+    put_bits(page, 2, two);
+    put_short(page, 2 * i + 2, line.left);
+    put_blanks(page, 2 * (n - i) + 2);
+    put_bits(page, i, line.root);
+    page.byte(b'\n');
 }
 
 // A blank, a sign, a blank and a number.
-fn put_term(out: &mut [u8], at: usize, sign: u8, x: u64) -> usize
-    requires { at + 23 ≤ length out.old }
-    ensures { (result, out.new) ≡ written at (term sign x) out.old }
+fn put_term(page: &mut Page, sign: u8, x: u64)
+    requires { HasRoom 23 page.old }
+    ensures { page.new ≡ put_on (term sign x) page.old }
 {
-    let at = put_byte(out, at, b' ');
-    let at = put_byte(out, at, sign);
-    let at = put_byte(out, at, b' ');
-    text::put_decimal(out, at, x)
+    page.byte(b' ');
+    page.byte(sign);
+    page.byte(b' ');
+    page.decimal(x);
 }
 
 // The sum that proves the root, in decimal.
-fn put_last(out: &mut [u8], at: usize, line: Line, q: u64) -> usize
-    requires { at + 90 ≤ length out.old }
-    ensures { (result, out.new) ≡ written at (last_line line q) out.old }
+fn put_last(page: &mut Page, line: Line, q: u64)
+    requires { HasRoom 90 page.old }
+    ensures { page.new ≡ put_on (last_line line q) page.old }
 {
-    let at = text::put_decimal(out, at, line.root);
-    let at = put_term(out, at, b'x', line.root);
-    let at = put_term(out, at, b'+', line.left);
-    let at = put_term(out, at, b'=', q);
-    put_byte(out, at, b'\n')
+    page.decimal(line.root);
+    put_term(page, b'x', line.root);
+    put_term(page, b'+', line.left);
+    put_term(page, b'=', q);
+    page.byte(b'\n');
 }
 
 // A line that stands at a place, moved to the right.
@@ -127,26 +121,28 @@ fn moved(line: Line, place: u64) -> Line
     }
 }
 
-// The whole sheet of q from the front of the bytes on.
-fn put_sheet(q: u64, out: &mut [u8]) -> usize
-    requires { 4096 ≤ length out.old }
-    ensures { (result, out.new) ≡ written 0 (sheet_of q) out.old }
+// The whole sheet of q.
+fn put_sheet(page: &mut Page, q: u64)
+    requires { HasRoom 4096 page.old }
+    ensures { page.new ≡ put_on (sheet_of q) page.old }
 {
     let n = pairs(q);
     let mut place = root::highest(q);
     let mut line = Line { left: q, root: 0 };
-    let mut at = put_first(out, n, q);
+    put_first(page, n, q);
     for i in 0..n {
         line = root::step(place, line);
-        at = put_row(out, at, n, i + 1, q / place % 4, moved(line, place));
+        put_row(page, n, i + 1, q / place % 4, moved(line, place));
         place /= 4;
     }
-    put_last(out, at, line, q)
+    put_last(page, line, q);
 }
 
 // Writes the sheet of q into 4096 bytes, which are enough for every sheet, and gives its length.
 pub fn write(q: u64, out: &mut [u8; 4096]) -> usize
     ensures { (result, out.new) ≡ written 0 (sheet_of q) out.old }
 {
-    put_sheet(q, out)
+    let mut page = Page { out, at: 0 };
+    put_sheet(&mut page, q);
+    page.at
 }

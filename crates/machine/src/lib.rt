@@ -9,6 +9,7 @@ ghost use Rattle.listing.specs.Listing.{line_room, line_of};
 ghost use Rattle.machine.specs.Feed.{ready, feed_of, leaves};
 ghost use Rattle.machine.specs.Inner.{TextPut, Entered, part};
 
+use listing::LINE_ROOM;
 use service::Outcome;
 
 // How a job stands: the records tried, and whether it has stopped.
@@ -28,7 +29,7 @@ pub struct Progress {
     pub wrote: usize,
 }
 
-// What one record comes to: how far the next one is, and where the next line goes.
+// What one record comes to: how far the next one is, which is 0 where there is none (`Deed` of the crate service), and where the next line goes.
 #[derive(Clone, Copy)]
 pub struct Entry {
     pub extent: usize,
@@ -37,9 +38,6 @@ pub struct Entry {
 
 // The bytes of the longest record.
 pub const LONGEST_RECORD: usize = 34;
-
-// The room that every line has.
-const LINE_ROOM: usize = 64;
 
 // Puts the line of record n at a place, and gives the place after it.
 fn put_line(out: &mut [u8], at: usize, n: u64, outcome: Outcome) -> usize

@@ -1,7 +1,7 @@
 // A call as 48 bytes: the kind, the slot (two bytes), and the fields, each as wide as its type. A daily figure stands where traffic would,
 // the second end of a road or a wall where a length would, and the y of that in the last four bytes.
 // So calls can be told that no record holds. A kind that is not listed is an ask.
-ghost use Rattle.std.specs.Prelude.{◌≡◌, ◌+◌, ◌*◌, ◌≤◌};
+ghost use Rattle.std.specs.Prelude.{◌≡◌, ◌+◌, ◌≤◌};
 ghost use Rattle.probe.specs.Raw as spec;
 
 use course::{Course, Ends, Piece};

@@ -63,6 +63,7 @@ fn writing_frame(rt: &HostRuntime, n: usize) -> Option<()> {
 }
 
 // One frame. The length of the store has four bytes, of which the first two are 0; where they are 1 the frame asks for writing.
+// By number: so a frame begins, and what it has to be read as follows from it.
 fn frame(rt: &HostRuntime) -> Option<()> {
     let mode = read_size(rt)?;
     let n = read_size(rt)?;

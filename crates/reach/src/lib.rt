@@ -3,18 +3,18 @@
 #![tactic(auto)]
 
 ghost use Rattle.std.specs.Prelude.{◌≡◌, ◌+◌, ◌-◌, ◌*◌, ◌<◌, ◌≤◌, [], ◌∷◌, Ok};
-ghost use Rattle.screen.specs.Screen.{AllOnPlan};
 ghost use Rattle.road.specs.Term.{◌⊕◌};
 ghost use Rattle.course.specs.Course.{square, length_of, one_piece, pieces_between, Mapped};
 ghost use Rattle.road.specs.Limits.{coordinate, longest};
 ghost use Rattle.road.specs.Reach.{source_height, plan_square, space_square, length_term, distance_term, ground_term, obstacle_term, weather_term, unless_loud, pair_over, two_walls, pair_of, farthest};
 ghost use Rattle.road.specs.Pairs.{Mild};
-ghost use Rattle.road.specs.Judge.{source_verdict, receiver_verdict};
-ghost use Rattle.road.specs.Inner.{sent_of, voiced_part, hear_of, share_by, added_shares, rank, earlier, joined, Modest, Moderate};
+ghost use Rattle.road.specs.Judge.{receiver_verdict};
+ghost use Rattle.road.specs.Inner.{voiced_part, hear_of, share_by, added_shares, rank, earlier, joined, Modest, Moderate};
 
 use course::{Course, Ends, Piece};
-use road::{Bar, Pair, Part, Receiver, Sent, Shares, Source, Term, Voice};
-use screen::{Point, Wall};
+use emission::Sender;
+use road::{Bar, Pair, Part, Receiver, Sent, Shares, Term, Voice};
+use screen::{Point, Walls};
 
 // How high above the road the source is, in cm.
 const SOURCE_HEIGHT: u16 = 50;
@@ -120,8 +120,8 @@ fn hear(voices: [Voice; 3], length: Term, q0: u64, q: u64, h: u64, screening: u3
 }
 
 // A piece that is not cut, all of what is sent: the three shares, or the first bar.
-fn alone(walls: &[Wall], sent: Sent, r: Receiver) -> Pair
-    requires fits { Moderate sent.voices × (receiver_verdict r ≡ Ok tt) × (sent.length ≡ length_term sent.whole.length) × AllOnPlan walls.now }
+fn alone(walls: &Walls, sent: Sent, r: Receiver) -> Pair
+    requires fits { Moderate sent.voices × (receiver_verdict r ≡ Ok tt) × (sent.length ≡ length_term sent.whole.length) }
     requires x_le_coordinate { (sent.whole.x ≤ coordinate) × (sent.whole.y ≤ coordinate) × (1 ≤ sent.whole.length) × (sent.whole.length ≤ longest) }
     ensures { result ≡ pair_over (share_by walls.now sent.voices r) (two_walls walls.now r) r (sent.whole ∷ []) }
 {
@@ -197,8 +197,8 @@ fn join(a: Pair, b: Pair) -> Pair
 
 // A road between two ends, all of which is the piece: as long as it is too long for the point it is halved, and each half is treated the
 // same way.
-fn along(walls: &[Wall], voices: [Voice; 3], whole: Piece, e: Ends, r: Receiver) -> Pair
-    requires fits { Moderate voices × (receiver_verdict r ≡ Ok tt) × AllOnPlan walls.now }
+fn along(walls: &Walls, voices: [Voice; 3], whole: Piece, e: Ends, r: Receiver) -> Pair
+    requires fits { Moderate voices × (receiver_verdict r ≡ Ok tt) }
     requires mapped { Mapped e × (whole ≡ one_piece e) × (1 ≤ length_of e) × (length_of e ≤ longest) }
     ensures { result ≡ pair_over (share_by walls.now voices r) (two_walls walls.now r) r (pieces_between (λ p. space_square p r) e) }
 {
@@ -229,12 +229,13 @@ fn along(walls: &[Wall], voices: [Voice; 3], whole: Piece, e: Ends, r: Receiver)
     )
 }
 
-// A source and a receiver among walls: the three shares, or the first bar.
-pub fn pair(walls: &[Wall], s: Source, sent: Sent, r: Receiver) -> Pair
-    requires { (source_verdict s ≡ Ok tt) × (sent ≡ sent_of s) × (receiver_verdict r ≡ Ok tt) × AllOnPlan walls.now }
-    ensures { result ≡ pair_of walls.now s r }
+// A source that sends and a receiver among walls: the three shares, or the first bar.
+pub fn pair(walls: &Walls, from: &Sender, r: Receiver) -> Pair
+    requires { receiver_verdict r ≡ Ok tt }
+    ensures { result ≡ pair_of walls.now from.now r }
 {
-    match s.course {
+    let sent = from.sent();
+    match from.source().course {
         Course::Uncut(_) => alone(walls, sent, r),
         Course::Between(e) => along(walls, sent.voices, sent.whole, e, r),
     }

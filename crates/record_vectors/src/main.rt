@@ -22,9 +22,9 @@ fn print_bytes(rt: &HostRuntime, bytes: &[u8]) {
 
 fn print_refusal(rt: &HostRuntime, why: Refusal) {
     print(rt, b"refused ");
-    print_number(rt, answer::number(why) as u64);
+    print_number(rt, u64::from(answer::number(why)));
     print(rt, b" at ");
-    print_number(rt, answer::place(why) as u64);
+    print_number(rt, u64::from(answer::place(why)));
 }
 
 // Writes a call, and prints why not, if it is refused, and what the output holds then.

@@ -6,17 +6,16 @@ use mathlib.Core.Path.{◌≡◌, refl, sym, ap, ap₂, ◌∙◌, subst, subst�
 use mathlib.Core.Bool.{Bool, true, false, cond, ◌||◌}
 use mathlib.Core.List.{List, [], ◌∷◌, ◌++◌, append_assoc}
 use native.Mathlib.Nat.{lt_of_lt_of_le, add-zero}
-use native.Mathlib.Numerals.{add-one}
 use native.Mathlib.Omega.{arith}
 use borrow.Author.Tests.{le-leb, lt-leb, leb-true, ltb-false, lt-ltb, le-ltb}
 use lib.Dec.{leb, ltb, eqb}
-use lib.ListN.{length, get_or, take, drop, replicate, length-append, length-map}
-use lib.Seq.{get_or-drop, take_at, drop-drop, drop-append-add, take_all}
+use lib.ListN.{length, take, drop, replicate, length-append, length-map}
+use lib.Seq.{take_at, drop-drop, drop-append-add, take_all}
 use lib.Pow.{pow_mono}
-use Rattle.layout.specs.Layout.{size, fields, Within, bits, num}
+use Rattle.layout.specs.Layout.{size, Within}
 use Rattle.layout.specs.Over.{over}
 use Rattle.layout.proofs.Packing.{within_length, within_at, within_front}
-use Rattle.layout.proofs.Laws.{length_fields, length_packed}
+use Rattle.layout.proofs.Laws.{length_packed}
 use Rattle.answer.specs.declared.Refusal.{Refusal}
 use Rattle.answer.specs.declared.Refusal.TheVariants.{CutShort, UnknownKind, Leftover}
 use Rattle.road.specs.declared.Source.{Source}
@@ -26,49 +25,16 @@ use Rattle.road.proofs.Rows.{roomy, fit_wider, record_fit}
 use Rattle.request.specs.declared.Request.{Request}
 use Rattle.request.specs.declared.Request.TheVariants.{Ask}
 use Rattle.request.specs.Record.{Written}
-use Rattle.request.specs.Kinds.{at, blank, kind_at, layout_of, call_in, source_in, leftover_of, verdict_of, kind_number, fields_of}
+use Rattle.request.specs.Kinds.{at, blank, kind_at, layout_of, call_in, source_in, verdict_of, kind_number, fields_of}
 use Rattle.request.specs.Record.{kind_of, length_of, values_of, cut_short, unknown_kind, leftover_set, reading, refused, judged, heard_by, heard, read_of, extent_of, record_of, written_by, write_of}
 use Rattle.request.specs.Inner.{filled, first_of}
 use Rattle.request.proofs.Rows.{row_begun}
 
 -- ---- fields with zeros after them
 
-zeros : (m i : ℕ) → get_or {A = ℕ} (replicate m 0) i 0 ≡ 0
-zeros zero i = refl
-zeros (suc m) zero = refl
-zeros (suc m) (suc i) = zeros m i
-
-over_zeros : (v z : List ℕ) (i : ℕ) → ((j : ℕ) → get_or z j 0 ≡ 0) → get_or (v ++ z) i 0 ≡ get_or v i 0
-over_zeros [] z i h = h i
-over_zeros (x ∷ v) z zero h = refl
-over_zeros (x ∷ v) z (suc i) h = over_zeros v z i h
-
--- each field is still where it was
-pub at_filled : (v : List ℕ) → at (filled v) ≡ at v
-unfolding filled
-at_filled v = λ i j. over_zeros v (drop (length v) (replicate 25 0)) j (λ n. get_or-drop (length v) (replicate 25 0) n 0 ∙ zeros 25 (length v + n)) i
-
 pub first_filled : (k : ℕ) (v : List ℕ) → length v ≡ length (layout_of k) → first_of k (filled v) ≡ v
 unfolding filled
 first_filled k v e = take_at v (drop (length v) (replicate 25 0)) (length (layout_of k)) e
-
--- the reader's array, once the fields are read into it
-pub read_into : (k n : ℕ) (s : List ℕ) {v : List ℕ} → v ≡ fields (layout_of k) s → n ≡ length (layout_of k)
-    → v ++ drop n (replicate 25 0) ≡ filled (fields (layout_of k) s)
-unfolding filled
-read_into k n s e f = λ i. e i ++ drop ((f ∙ sym (length_fields (layout_of k) s)) i) (replicate 25 0)
-
-filled_longer : (v : List ℕ) → length v ≤ length (filled v)
-unfolding filled
-filled_longer v = omega (arith, length-append v (drop (length v) (replicate 25 0)))
-
-pub read_room : (k n : ℕ) (s : List ℕ) {v : List ℕ} → v ≡ fields (layout_of k) s → n ≡ length (layout_of k) → n ≤ length (v ++ drop n (replicate 25 0))
-read_room k n s e f =
-    omega (arith, ap length (read_into k n s e f), filled_longer (fields (layout_of k) s), length_fields (layout_of k) s)
-
--- it begins with the fields that are read
-pub first_values : (k n : ℕ) (s v : List ℕ) → n ≡ length (layout_of k) → v ≡ filled (fields (layout_of k) s) → take n v ≡ fields (layout_of k) s
-first_values k n s v e f = (λ i. take (e i) (f i)) ∙ first_filled k (fields (layout_of k) s) (length_fields (layout_of k) s)
 
 -- values laid behind fields
 pub filled_more : (w t : List ℕ) → over (length w) t (filled w) ≡ filled (w ++ t)
@@ -121,12 +87,7 @@ table_fits {A} t us left v h w =
       fit_wider t left (length us) v h (subst (λ (k : ℕ). Fit (bits_by t ++ left) k v) z (fit_behind us (bits_by t ++ left) 0 v f)),
     )
 
--- ---- the kind and the extent
-
-pub no_kind : (s : List ℕ) → length s ≡ 0 → 0 ≡ kind_of s
-unfolding bits num
-no_kind [] h = refl
-no_kind (x ∷ s) h = absurd (omega arith)
+-- ---- the extent
 
 pub extent_whole : (s : List ℕ) → length_of s ≤ length s → length_of s ≡ extent_of s
 unfolding extent_of
@@ -165,13 +126,6 @@ uncut s h = ltb-false (length s) (length_of s) (second (eqb (length s) 0) (ltb (
     second : (a b : Bool) → a || b ≡ false → b ≡ false
     second true b e = let z : ◌≡◌ {A = ℕ} 0 1 = cc in absurd (omega arith)
     second false b e = e
-
-pub leftover_at : (s v : List ℕ) (k n : ℕ) → k ≡ kind_of s → v ≡ filled (fields (layout_of k) s) → n ≡ (kind_at k).fields
-    → at v (n + 1) ≡ leftover_of (kind_of s) (values_of s)
-leftover_at s v k n e f g =
-    rw add-one
-    ((λ i. at (f i) (suc (g i))) ∙ (λ i. at_filled (fields (layout_of k) s) i (suc (kind_at k).fields))
-    ∙ ap (λ (j : ℕ). leftover_of j (fields (layout_of j) s)) e)
 
 module _ (s : List ℕ) where
   pub read_cut : cut_short s ≡ true → refused CutShort ≡ read_of s
@@ -222,7 +176,7 @@ module _ (call : Request) (source : Source) (out : List ℕ) where
         ap (λ (n : ℕ). (Ok tt, record_of call source ++ drop n out)) (sym record_length)
         ∙ sym (ap (λ (v : Verdict). written_by v (record_of call source) out) h ∙ rw e refl)
 
--- ---- the kinds that the code does not name
+-- ---- what any other number asks for, and the source beside it: nothing cites these since the code has a case for each kind
 
 pub ask_else : (k slot : ℕ) (v : List ℕ) → (k ≡ 1 → ⊥) → (k ≡ 2 → ⊥) → (k ≡ 3 → ⊥) → (k ≡ 4 → ⊥) → (k ≡ 6 → ⊥) → (k ≡ 7 → ⊥) → (k ≡ 8 → ⊥) → (k ≡ 9 → ⊥)
     → (kind_at k).call slot v ≡ Ask slot

@@ -1,17 +1,9 @@
--- What the inner functions of the reader and the writer say of their arrays: the widths of all kinds, and 25 numbers for the fields of one.
+-- What the inner functions of the reader and the writer say of their arrays: 25 numbers for the fields of a kind, and its sizes.
 -- No promise to a caller speaks of these.
-use Rattle.std.specs.Prelude.{ℕ, List, [], ◌∷◌, ◌++◌, length, take, drop, replicate}
+use Rattle.std.specs.Prelude.{ℕ, List, ◌++◌, length, take, drop, replicate}
 use Rattle.layout.specs.Layout.{size}
 use Rattle.request.specs.declared.Shape.{Shape}
-use Rattle.request.specs.Kinds.{Kind, kinds, kind_at, layout_of}
-
--- the widths of one row after the other
-abbrev pub joined : List Kind → List ℕ
-joined [] = []
-joined (k ∷ ks) = k.widths ++ joined ks
-
-unfoldable pub all_widths : List ℕ
-all_widths = joined kinds
+use Rattle.request.specs.Kinds.{Kind, kind_at, layout_of}
 
 -- fields, with zeros after them
 unfoldable pub filled : List ℕ → List ℕ

@@ -1,7 +1,7 @@
 -- Each public function of roads, and of the crates below that do not rest on the law, settles its outcome: one line for each.
 -- Assumes nothing.
 use Rattle.answer.specs.Settled.{Settles, SettlesResult}
-use Rattle.answer.proofs.Settled.{settled}
+use Rattle.answer.proofs.Settled.{settled, settled_too}
 use Rattle.root.proofs.Laws.{root_one}
 use Rattle.level.proofs as level
 use Rattle.layout.proofs as layout
@@ -95,14 +95,17 @@ cut_settled l a = settled _ _
 section_screening_settled : SettlesResult screen.section.screening.Reads.Post
 section_screening_settled l a = settled _ _
 
+walls_settled : SettlesResult screen.Walls.of.Reads.Post
+walls_settled l a = settled _ _
+
 meet_settled : SettlesResult screen.meet.Reads.Post
-meet_settled l a = settled _ _
+meet_settled l a = settled_too _ _ _
 
 screening_settled : SettlesResult screen.screening.Reads.Post
 screening_settled l a = settled _ _
 
 screened_settled : SettlesResult screen.screened.Reads.Post
-screened_settled l a = settled _ _
+screened_settled l a = settled_too _ _ _
 
 -- ---- roots
 

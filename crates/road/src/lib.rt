@@ -62,8 +62,8 @@ pub struct Sent {
     pub length: Term,
 }
 
-// The energies of one road at one point, by day, in the evening and at night.
-#[derive(Clone, Copy)]
+// The energies of one road at one point, by day, in the evening and at night; by default those of no road.
+#[derive(Clone, Copy, Default)]
 pub struct Shares {
     pub day: u64,
     pub evening: u64,

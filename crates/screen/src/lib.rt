@@ -5,13 +5,14 @@
 pub mod plan;
 pub mod section;
 
-ghost use Rattle.std.specs.Prelude.{◌≡◌, true};
+ghost use Rattle.std.specs.Prelude.{◌≡◌, ◌≤◌, true, IfSome};
 ghost use Rattle.course.specs.Course.{plan_between};
 ghost use Rattle.screen.specs.Plan.{OnPlan, WallOnPlan, counts};
 ghost use Rattle.screen.specs.Section.{Reaches, screening_of};
 ghost use Rattle.screen.specs.Screen.{AllOnPlan, one_more, look_at, met_of, loss_of};
 
 use course::Ends;
+use std::marker::Model;
 
 // A point of the plan, in cm.
 // May not change: that 24 bits hold it (`OnPlan`) is asked of each call, since the definitions speak of all points.
@@ -26,6 +27,34 @@ pub struct Point {
 pub struct Wall {
     pub ends: Ends,
     pub height: u16,
+}
+
+// The walls that stand, each of them on the plan.
+#[derive(Drop)]
+pub struct Walls<'a> {
+    all: &'a [Wall],
+}
+
+impl<'a> Model for Walls<'a> {
+    ghost use Rattle.std.specs.Prelude.{List};
+    ghost use Rattle.screen.specs.declared.Wall.{Wall};
+    ghost use Rattle.screen.specs.Screen.{AllOnPlan};
+
+    ghost Value = { List Wall };
+
+    ghost view = { λ s. s.all.now };
+
+    ghost invariant = { λ s. AllOnPlan s.all.now };
+}
+
+impl<'a> Walls<'a> {
+    // The walls of a list, as those that stand.
+    pub fn of(all: &'a [Wall]) -> Walls<'a>
+        requires { AllOnPlan all.now }
+        ensures { result ≡ all.now }
+    {
+        Walls { all }
+    }
 }
 
 // The walls that count between a piece and a point.
@@ -60,12 +89,12 @@ fn look(p: Point, r: Point, met: Met, w: Wall) -> Met
 }
 
 // Which of the walls count between the middle p of a piece and the point r.
-pub fn meet(p: Point, r: Point, walls: &[Wall]) -> Met
-    requires { OnPlan p × OnPlan r × AllOnPlan walls.now }
-    ensures { result ≡ met_of p r walls.now }
+pub fn meet(p: Point, r: Point, walls: &Walls) -> Met
+    requires { OnPlan p × OnPlan r }
+    ensures { (result ≡ met_of p r walls.now) × AllOnPlan walls.now }
 {
     let mut met = Met::Nothing;
-    for w in walls {
+    for w in walls.all {
         met = look(p, r, met, *w);
     }
     met
@@ -83,10 +112,10 @@ pub fn screening(p: Point, r: Point, height: u16, q0: u64, q: u64, w: Wall) -> u
 }
 
 // What the walls between the middle p of a piece and the point r take off, in hundredths of a dB; None where more than one counts.
-pub fn screened(p: Point, r: Point, height: u16, q0: u64, q: u64, walls: &[Wall]) -> Option<u32>
-    requires fits { OnPlan p × OnPlan r × AllOnPlan walls.now }
+pub fn screened(p: Point, r: Point, height: u16, q0: u64, q: u64, walls: &Walls) -> Option<u32>
+    requires fits { OnPlan p × OnPlan r }
     requires q0_value { (q0 ≡ plan_between p.x p.y r.x r.y) × Reaches height q0 q }
-    ensures { result ≡ loss_of p r height q0 q walls.now }
+    ensures { (result ≡ loss_of p r height q0 q walls.now) × IfSome result (λ d. d ≤ 6000) }
 {
     match meet(p, r, walls) {
         Met::Nothing => Some(0),

@@ -14,6 +14,7 @@ use request::Request;
 use road::Source;
 
 // What comes of a record that is not refused: done, or the two indices of the receiver in a slot (L_DEN, then L_Night).
+// Beside the book's `Reply`, which has no slot: a line of the listing names it (`line_of` of listing/specs/Listing.antt).
 #[derive(Clone, Copy)]
 pub enum Report {
     Done,
@@ -31,7 +32,7 @@ pub struct Deed {
     pub extent: usize,
 }
 
-// The slot of a call.
+// The slot of a call. By hand: each case of a request has its slot beside what it asks for.
 fn slot(call: Request) -> u16
     ensures { result ≡ slot_in call }
 {

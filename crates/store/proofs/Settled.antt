@@ -10,29 +10,10 @@ damaged_settled l a = settled _ _
 wipe_settled : Settles (λ l a r e. e.0.now) proofs.wipe.Reads.Post
 wipe_settled l a = settled _ _
 
-source_slot_settled : SettlesResult proofs.sources.source_slot.Reads.Post
-source_slot_settled l a = settled _ _
+-- of every party
+read_settled : (T : _) (N : _) (L : _) (F : _) (C : _) (p : _) (d : _) (k : _) (e : _) → SettlesResult (proofs.party.read.Reads.Post T N L F C p d k e)
+read_settled T N L F C p d k e l a = settled _ _
 
-put_source_settled : Settles (λ l a r e. e.0.now) proofs.sources.put_source.Reads.Post
-put_source_settled l a = settled _ _
-
-drop_source_settled : Settles (λ l a r e. e.0.now) proofs.sources.drop_source.Reads.Post
-drop_source_settled l a = settled _ _
-
-seat_settled : SettlesResult proofs.receivers.seat.Reads.Post
-seat_settled l a = settled _ _
-
-put_held_settled : Settles (λ l a r e. e.0.now) proofs.receivers.put_held.Reads.Post
-put_held_settled l a = settled _ _
-
-drop_held_settled : Settles (λ l a r e. e.0.now) proofs.receivers.drop_held.Reads.Post
-drop_held_settled l a = settled _ _
-
-wall_slot_settled : SettlesResult proofs.walls.wall_slot.Reads.Post
-wall_slot_settled l a = settled _ _
-
-put_wall_settled : Settles (λ l a r e. e.0.now) proofs.walls.put_wall.Reads.Post
-put_wall_settled l a = settled _ _
-
-drop_wall_settled : Settles (λ l a r e. e.0.now) proofs.walls.drop_wall.Reads.Post
-drop_wall_settled l a = settled _ _
+put_settled : (T : _) (N : _) (L : _) (F : _) (C : _) (p : _) (d : _) (k : _) (e : _)
+    → Settles (λ l a r x. x.0.now) (proofs.party.put.Reads.Post T N L F C p d k e)
+put_settled T N L F C p d k e l a = settled _ _

@@ -1,18 +1,23 @@
 // The book's state as bytes that the caller lends (docs/STORE.md): source slots, then receiver slots with their accounts, then wall slots.
 // specs/Store.antt says what book stands in the bytes and what damage is; the parts here read and write one slot.
 // May not change: each contract says the store's length, since the caller owns the bytes and lends them anew for each call.
+// And in the crates above that it is undamaged: tried as a type, a struct round the lent bytes with a model or a ghost field, the proof didn't
+// close, since of bytes that such a struct held nothing is known when it is gone, and `book` has to say what they hold.
 #![tactic(auto)]
 
-pub mod receivers;
-mod slot;
-pub mod sources;
-pub mod walls;
+pub mod party;
+mod receivers;
+pub mod slot;
+mod sources;
+mod walls;
 
 ghost use Rattle.std.specs.Prelude.{◌≡◌, length};
 ghost use Rattle.store.specs.Store.{store_length, damaged, cleared_bytes};
 
 use account::Account;
-use road::Receiver;
+pub use party::{put, read};
+use road::{Receiver, Source};
+use screen::Wall;
 
 // How many source slots, receiver slots and wall slots a book has.
 pub const SOURCES: usize = 512;
@@ -58,7 +63,9 @@ pub fn damaged(store: &[u8]) -> bool
     if store.len() != LENGTH {
         return true;
     }
-    sources::any_torn(store) || receivers::any_torn(store) || walls::any_torn(store)
+    party::any_torn::<Source, _>(store)
+        || party::any_torn::<Held, _>(store)
+        || party::any_torn::<Wall, _>(store)
 }
 
 // Makes every byte 0.

@@ -1,17 +1,17 @@
 // Slots side by side in the lent bytes, whatever party stands in them: marked as used, read, written, and looked at for zeros.
-ghost use Rattle.std.specs.Prelude.{◌≡◌, true, ◌∷◌, ◌+◌, ◌*◌, ◌≤◌, ◌<◌, length, get_or, take, drop, eqb};
+ghost use Rattle.std.specs.Prelude.{◌≡◌, true, ◌+◌, ◌*◌, ◌≤◌, ◌<◌, length, get_or, take, drop, eqb};
 ghost use Rattle.layout.specs.Layout.{size, sized, fields, packed, Within};
 ghost use Rattle.layout.specs.Over.{over};
 ghost use Rattle.store.specs.Slots.{all_zero};
 
-// By hand in each part: a static's widths row by row, since its value may call nothing that goes over a table; and `torn`, of which three
-// lines are alike, since numbers of each length have their own judge, and a contract of a closure for it would be longer than they are.
+// By hand in each part: a static's widths row by row, since its value may call nothing that goes over a table.
 
-// Where slots begin, how many bytes each has, and the widths in bits of its numbers.
-pub(crate) struct Slots<const N: usize> {
-    pub(crate) begin: usize,
-    pub(crate) size: usize,
-    pub(crate) widths: [u8; N],
+// Where slots begin, how many there are, how many bytes each has, and the widths in bits of its numbers.
+pub struct Slots<const N: usize> {
+    pub begin: usize,
+    pub count: usize,
+    pub size: usize,
+    pub widths: [u8; N],
 }
 
 impl<const N: usize> Slots<N> {
@@ -23,16 +23,15 @@ impl<const N: usize> Slots<N> {
         store[self.begin + i * self.size] == 1
     }
 
-    // The numbers of slot i: read quicker where seven bytes follow it.
+    // The numbers of slot i.
     pub(crate) fn numbers(&self, store: &[u8], i: usize) -> [u64; N]
         requires handled { (sized self.now.widths ≡ true) × (size self.now.widths ≡ self.now.size) }
         requires place { self.now.begin + i * self.now.size + self.now.size ≤ length store.now }
         ensures { result ≡ fields self.now.widths (take (size self.now.widths) (drop (self.now.begin + i * self.now.size) store.now)) }
     {
         let rest = &store[self.begin + i * self.size..];
-        let spare = self.size + 7 <= rest.len();
         let mut v = [0; N];
-        layout::take_fields(rest, &self.widths, &mut v, spare);
+        layout::take_fields(rest, &self.widths, &mut v);
         v
     }
 

@@ -1,87 +1,56 @@
--- Texts written one after another make one text, and the turns of the loops that write.
+-- Texts written one after another make one text, and the turns of the loops that write digits.
 -- Assumes nothing.
-use Prim.Native.Nat.{ℕ, zero, suc, ◌+◌, ◌-◌, ◌/◌, ◌≤◌, ◌<◌}
+use Prim.Native.Nat.{ℕ, zero, suc, ◌+◌, ◌-◌, ◌/◌, ◌≤◌}
 use mathlib.Core.Path.{◌≡◌, refl, sym, ap, ap₂, ◌∙◌}
-use mathlib.Core.List.{List, [], ◌∷◌, ◌++◌, append_assoc}
+use mathlib.Core.List.{List, [], ◌∷◌, ◌++◌, append_assoc, append-nil}
+use native.Mathlib.Decide.{dec_le}
 use native.Mathlib.Omega.{arith}
-use lib.ListN.{length, take, drop, set, length-append, length-set}
-use lib.Seq.{drop-cons, take-set-le, drop-set-lt, get_or-set_same}
+use lib.ListN.{length, drop, set, length-append, length-drop, length-set, drop_of_length-le}
+use Rattle.std.proofs.lemmas.List.{take_all}
+use lib.Seq.{length-take-le, drop-cons, drop-set-lt, get_or-set_same}
 use Rattle.layout.specs.Over.{over}
-use Rattle.layout.proofs.Writes.{over_none, over_next, length_over}
-use Rattle.text.specs.Text.{digit, last_digits, written}
+use Rattle.layout.proofs.Writes.{over_none, over_cons, over_next}
+use Rattle.text.specs.Text.{digit, last_digits}
 
 -- ---- one text after another
 
--- t is written from at on, up to r, and o is s with it
-abbrev pub Wrote : ℕ → List ℕ → List ℕ → ℕ → List ℕ → Type 0
-Wrote at t s r o = (r, o) ≡ written at t s
+-- past the end of a list a write goes behind it
+over_past : (at : ℕ) (t s : List ℕ) → length s ≤ at → over at t s ≡ s ++ t
+unfolding over
+over_past at t s h =
+    rw (take_all at s h, drop_of_length-le s {i = at + length t} (omega arith), append-nil t) refl
 
-module _ (at : ℕ) (t s : List ℕ) (r : ℕ) (o : List ℕ) (w : Wrote at t s r o) where
-  pub ends : r ≡ at + length t
-  unfolding written
-  ends = ap (λ (p : ℕ × List ℕ). p.0) w
+-- a write where another ended makes one write with it
+pub over_after : (at : ℕ) (t u s : List ℕ) → over (at + length t) u (over at t s) ≡ over at (t ++ u) s
+over_after at t u s = go (dec_le at (length s))
+  where
+    go : Dec (at ≤ length s) → over (at + length t) u (over at t s) ≡ over at (t ++ u) s
+    go (yes h) = over_next at t s h u
+    go (no h) =
+        let l : length (s ++ t) ≤ at + length t = rw length-append (omega arith) in
+        ap (over (at + length t) u) (over_past at t s (omega arith)) ∙ over_past (at + length t) u (s ++ t) l
+        ∙ append_assoc s t u ∙ sym (over_past at (t ++ u) s (omega arith))
 
-  pub leaves : o ≡ over at t s
-  unfolding written
-  leaves = ap (λ (p : ℕ × List ℕ). p.1) w
+-- no write makes a list shorter
+over_long_in : (at : ℕ) (t s : List ℕ) → at ≤ length s → length s ≤ length (over at t s)
+unfolding over
+over_long_in at t s h = simp (length-append, length-drop) (omega (arith, length-take-le at s h))
 
-  module _ (h : at + length t ≤ length s) where
-    pub as_long : length o ≡ length s
-    as_long = ap length leaves ∙ length_over at t s (omega arith) h
+pub over_long : (at : ℕ) (t s : List ℕ) → length s ≤ length (over at t s)
+over_long at t s = go (dec_le at (length s))
+  where
+    go : Dec (at ≤ length s) → length s ≤ length (over at t s)
+    go (yes h) = over_long_in at t s h
+    go (no h) = rw (over_past at t s (omega arith), length-append) (omega arith)
 
-    pub then : (u : List ℕ) (q : ℕ) (p : List ℕ) → Wrote r u o q p → Wrote at (t ++ u) s q p
-    unfolding written
-    then u q p v =
-        let e : at + length t + length u ≡ at + length (t ++ u) = rw length-append (omega arith) in
-        v ∙ ap₂ (λ (k : ℕ) (l : List ℕ). (k + length u, over k u l)) ends leaves
-        ∙ ap₂ (λ (k : ℕ) (l : List ℕ). (k, l)) e (over_next at t s (omega arith) u)
-
--- the same where t has k bytes at most, of the top bytes that s has room for from at on
-pub record Part (at top k : ℕ) (t s : List ℕ) (r : ℕ) (o : List ℕ) : Type 0 where
-  pub space : at + top ≤ length s
-  pub wrote : Wrote at t s r o
-  pub most : length t ≤ k
-
--- room for j bytes more, and a text of j bytes at most after it
-module _ {at top k : ℕ} {t s : List ℕ} {r : ℕ} {o : List ℕ} (p : Part at top k t s r o) (j : ℕ) (h : k + j ≤ top) where
-  fits : at + length t ≤ length s
-  fits = omega (arith, p.space, p.most)
-
-  pub room : r + j ≤ length o
-  room = omega (arith, ends at t s r o p.wrote, as_long at t s r o p.wrote fits, p.space, p.most)
-
-  pub next : (u : List ℕ) (q : ℕ) (l : List ℕ) → length u ≤ j → Wrote r u o q l → Part at top (k + j) (t ++ u) s q l
-  next u q l m w = record {
-    space = p.space;
-    wrote = then at t s r o p.wrote fits u q l w;
-    most = rw length-append (omega (arith, p.most));
-  }
+-- one byte
+pub over_one : (at b : ℕ) (s : List ℕ) → at + 1 ≤ length s → set s at b ≡ over at (b ∷ []) s
+over_one at b s h = sym (over_cons at b [] s (omega arith) ∙ over_none (at + 1) (set s at b))
 
 -- ---- the turns
 
--- a write up to its last byte, after that byte was set
-over_last : (at b : ℕ) (t s : List ℕ) → at + length t < length s → over at (t ++ (b ∷ [])) s ≡ over at t (set s (at + length t) b)
-unfolding over
-over_last at b t s h =
-    let m = at + length t in
-    let l : length (set s m b) ≡ length s = length-set s m b in
-    let e : at + length (t ++ (b ∷ [])) ≡ suc m = rw length-append (omega arith) in
-    let d : drop m (set s m b) ≡ b ∷ drop (suc m) s =
-    drop-cons (set s m b) m 0 (omega arith) ∙ ap₂ (λ (x : ℕ) (y : List ℕ). x ∷ y) (get_or-set_same s m b 0 h) (drop-set-lt (suc m) s m b (omega arith)) in
-    ap (λ (l : List ℕ). take at s ++ l)
-    (append_assoc t (b ∷ []) (drop (at + length (t ++ (b ∷ []))) s)
-    ∙ ap (λ (n : ℕ). t ++ (b ∷ drop n s)) e ∙ ap (λ (l : List ℕ). t ++ l) (sym d))
-    ∙ ap (λ (l : List ℕ). l ++ (t ++ drop m (set s m b))) (sym (take-set-le at s m b (omega arith)))
-
--- one byte
-pub one_put : (at b : ℕ) (s : List ℕ) → at + 1 ≤ length s → (at + 1, set s at b) ≡ written at (b ∷ []) s
-unfolding written
-one_put at b s h =
-    let e : at + 0 ≡ at = omega arith in
-    ap (λ (o : List ℕ). (at + 1, o))
-    (ap (λ (n : ℕ). set s n b) (sym e) ∙ sym (over_none at (set s (at + 0) b)) ∙ sym (over_last at b [] s (omega arith)))
-
--- digits from the last to the first: f has the text of so many digits, which is that of one digit less, and d
+-- digits from the last to the first: f has the text of so many digits, which is that of one digit less, and d.
+-- What is left to write, and then what is written, is the whole
 module _ (f : ℕ → ℕ → List ℕ) (less d : ℕ → ℕ)
     (more : (w x : ℕ) → f (suc w) x ≡ f w (less x) ++ (d x ∷ []))
     (none : (x : ℕ) → f 0 x ≡ []) where
@@ -89,27 +58,37 @@ module _ (f : ℕ → ℕ → List ℕ) (less d : ℕ → ℕ)
   length_by zero x = ap length (none x)
   length_by (suc w) x = ap length (more w x) ∙ length-append (f w (less x)) (d x ∷ []) ∙ omega (arith, length_by w (less x))
 
-  -- one digit less is left
-  pub digit_put : (s g : List ℕ) (at left x : ℕ) → 1 ≤ left → at + left ≤ length s → over at (f left x) s ≡ g
-      → over at (f (left - 1) (less x)) (set s (at + (left - 1)) (d x)) ≡ g
-  digit_put s g at left x h l e =
-      let k : left ≡ suc (left - 1) = omega arith in
-      let n : length (f (left - 1) (less x)) ≡ left - 1 = length_by (left - 1) (less x) in
-      ap (λ (j : ℕ). over at (f (left - 1) (less x)) (set s (at + j) (d x))) (sym n)
-      ∙ sym (over_last at (d x) (f (left - 1) (less x)) s (omega arith))
-      ∙ ap (λ (u : List ℕ). over at u s) (sym (more (left - 1) x) ∙ ap (λ (j : ℕ). f j x) (sym k)) ∙ e
+  pub digits_begun : (o : List ℕ) (w x : ℕ) → length o ≤ w → f w x ++ drop w o ≡ f w x
+  digits_begun o w x h = rw (drop_of_length-le o {i = w} h) (append-nil (f w x))
 
-  pub digits_done : (s g : List ℕ) (at left x : ℕ) → left ≤ 0 → over at (f left x) s ≡ g → s ≡ g
-  digits_done s g at left x h e =
+  -- one digit less is left
+  pub digit_put : (o g : List ℕ) (left x : ℕ) → 1 ≤ left → left ≤ length o → f left x ++ drop left o ≡ g
+      → f (left - 1) (less x) ++ drop (left - 1) (set o (left - 1) (d x)) ≡ g
+  digit_put o g left x h l e =
+      let j = left - 1 in
+      let k : left ≡ suc j = omega arith in
+      let m : length (set o j (d x)) ≡ length o = length-set o j (d x) in
+      let u : drop j (set o j (d x)) ≡ d x ∷ drop (suc j) o =
+      drop-cons (set o j (d x)) j 0 (omega arith)
+      ∙ ap₂ (λ (x : ℕ) (y : List ℕ). x ∷ y) (get_or-set_same o j (d x) 0 (omega arith)) (drop-set-lt (suc j) o j (d x) (omega arith)) in
+      ap (λ (l : List ℕ). f j (less x) ++ l) u ∙ sym (append_assoc (f j (less x)) (d x ∷ []) (drop (suc j) o))
+      ∙ ap (λ (l : List ℕ). l ++ drop (suc j) o) (sym (more j x)) ∙ ap (λ (n : ℕ). f n x ++ drop n o) (sym k) ∙ e
+
+  pub digits_done : (o g : List ℕ) (left x : ℕ) → left ≤ 0 → f left x ++ drop left o ≡ g → o ≡ g
+  digits_done o g left x h e =
       let k : left ≡ 0 = omega arith in
-      sym (over_none at s) ∙ ap (λ (u : List ℕ). over at u s) (sym (none x) ∙ ap (λ (j : ℕ). f j x) (sym k)) ∙ e
+      ap (λ (l : List ℕ). l ++ o) (sym (none x)) ∙ ap (λ (j : ℕ). f j x ++ drop j o) (sym k) ∙ e
 
 -- decimal digits
-pub decimal_put : (s g : List ℕ) (at left x : ℕ) → 1 ≤ left → at + left ≤ length s → over at (last_digits left x) s ≡ g
-    → over at (last_digits (left - 1) (x / 10)) (set s (at + (left - 1)) (digit x)) ≡ g
+pub decimal_begun : (o : List ℕ) (w x : ℕ) → length o ≤ w → last_digits w x ++ drop w o ≡ last_digits w x
+unfolding last_digits
+decimal_begun = digits_begun last_digits (λ x. x / 10) digit (λ w x. refl) (λ x. refl)
+
+pub decimal_put : (o g : List ℕ) (left x : ℕ) → 1 ≤ left → left ≤ length o → last_digits left x ++ drop left o ≡ g
+    → last_digits (left - 1) (x / 10) ++ drop (left - 1) (set o (left - 1) (digit x)) ≡ g
 unfolding last_digits
 decimal_put = digit_put last_digits (λ x. x / 10) digit (λ w x. refl) (λ x. refl)
 
-pub decimal_done : (s g : List ℕ) (at left x : ℕ) → left ≤ 0 → over at (last_digits left x) s ≡ g → s ≡ g
+pub decimal_done : (o g : List ℕ) (left x : ℕ) → left ≤ 0 → last_digits left x ++ drop left o ≡ g → o ≡ g
 unfolding last_digits
 decimal_done = digits_done last_digits (λ x. x / 10) digit (λ w x. refl) (λ x. refl)

@@ -23,12 +23,16 @@ module _ (s : List ℕ) (most i : ℕ) (v : Verdict) (k : Step) where
   pub slot_refused : (why : Refusal) → ◌≡◌ {A = Verdict} (Err why) (slot_verdict most i (Ok tt)) → (Err why, s) ≡ told s (allow (slot_verdict most i v) k)
   slot_refused why e = ap by (sym (first_refuses (slot_verdict most i (Ok tt)) v (slot_verdict most i v) why (slot_after most i v) (sym e)))
 
-  module _ (e : ◌≡◌ {A = Verdict} (Ok tt) (slot_verdict most i (Ok tt))) where
-    pub fields_refused : (why : Refusal) → ◌≡◌ {A = Verdict} (Err why) v → (Err why, s) ≡ told s (allow (slot_verdict most i v) k)
-    fields_refused why f = ap by (f ∙ sym (first_allows (slot_verdict most i (Ok tt)) v (slot_verdict most i v) (slot_after most i v) (sym e)))
+  pub fields_refused : ◌≡◌ {A = Verdict} (Ok tt) (slot_verdict most i (Ok tt)) → (why : Refusal) → ◌≡◌ {A = Verdict} (Err why) v
+      → (Err why, s) ≡ told s (allow (slot_verdict most i v) k)
+  fields_refused e why f = ap by (f ∙ sym (first_allows (slot_verdict most i (Ok tt)) v (slot_verdict most i v) (slot_after most i v) (sym e)))
 
-    pub all_allowed : ◌≡◌ {A = Verdict} (Ok tt) v → told s k ≡ told s (allow (slot_verdict most i v) k)
-    all_allowed f = ap by (f ∙ sym (first_allows (slot_verdict most i (Ok tt)) v (slot_verdict most i v) (slot_after most i v) (sym e)))
+-- all is allowed, and the slot that the call goes on with is the one that was judged
+pub all_allowed : (s : List ℕ) (most i : ℕ) (v : Verdict) (k : ℕ → Step) (n : ℕ) → n ≡ i → ◌≡◌ {A = Verdict} (Ok tt) (slot_verdict most i (Ok tt)) → ◌≡◌ {A = Verdict} (Ok tt) v
+    → told s (k n) ≡ told s (allow (slot_verdict most i v) (k i))
+all_allowed s most i v k n j e f =
+    ap (λ (m : ℕ). told s (k m)) j
+    ∙ ap (by s most i v (k i)) (f ∙ sym (first_allows (slot_verdict most i (Ok tt)) v (slot_verdict most i v) (slot_after most i v) (sym e)))
 
 -- ---- a slot that has to be used: who was found in it, or nobody
 

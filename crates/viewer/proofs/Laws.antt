@@ -1,16 +1,16 @@
 -- What comes of a call, told as one result; that a refusal leaves what was there; and bytes that are written one by one.
 -- Assumes nothing.
 use Rattle.std.specs.Prelude.{Ok, Err}
-use Prim.Native.Nat.{ℕ, ◌/◌, ◌%◌, ◌≤◌, ◌<◌, min}
+use Prim.Native.Nat.{ℕ, ◌≤◌, ◌<◌, min}
 use mathlib.Core.Path.{◌≡◌, refl, sym, ap, ap₂, ◌∙◌}
 use mathlib.Core.Logic.{◌≢◌}
 use mathlib.Core.Bool.{Bool, true, false, cond}
 use mathlib.Core.Option.{Option, none, some}
-use mathlib.Core.List.{List, [], ◌∷◌}
+use mathlib.Core.List.{List}
 use native.Mathlib.Omega.{arith}
 use native.Mathlib.Decide.{dec_lt}
 use borrow.Author.Tests.{ne_eqb, eq-eqb, lt-ltb, le-ltb, lt-leb, leb-true}
-use lib.ListN.{length, get_or, set}
+use lib.ListN.{length, get_or}
 use Rattle.layout.proofs.Bounds.{both}
 use Rattle.answer.specs.declared.Refusal.{Refusal}
 use Rattle.answer.specs.declared.Refusal.TheVariants.{Damaged, Field}
@@ -33,7 +33,7 @@ use Rattle.history.proofs.Theorems.{of_this_book}
 use Rattle.service.specs.declared.Deed.{Deed}
 use Rattle.service.specs.Service.{Outcome}
 use Rattle.service.specs.Service.{call_of, slot_told, outcome_of, outcome_refusal, answer_told, done_to}
-use Rattle.viewer.specs.Viewer.{result_of, lastly, unless_refused, cleared, applied, word, indices_in, tell_in, answered, asked}
+use Rattle.viewer.specs.Viewer.{result_of, lastly, unless_refused, cleared, applied, indices_in, tell_in, answered, asked}
 
 -- ---- a refusal leaves what was there
 
@@ -196,14 +196,6 @@ ask_tells i s = go (damaged s) refl
 
 -- ---- bytes
 
-four : (s : List ℕ) (a b c d : ℕ) → length s ≡ 4 → set (set (set (set s 0 a) 1 b) 2 c) 3 d ≡ a ∷ b ∷ c ∷ d ∷ []
-four (p ∷ q ∷ r ∷ s ∷ []) a b c d e = refl
-four [] a b c d e = absurd (omega arith)
-four (p ∷ []) a b c d e = absurd (omega arith)
-four (p ∷ q ∷ []) a b c d e = absurd (omega arith)
-four (p ∷ q ∷ r ∷ []) a b c d e = absurd (omega arith)
-four (p ∷ q ∷ r ∷ s ∷ x ∷ l) a b c d e = absurd (omega arith)
-
 module _ (den night : Index) (out : List ℕ) where
   pub not_written : (x : ℕ) → length out ≢ 4 → x ≡ result_of (lastly true none) → (x, out) ≡ tell_in out (Ok (answer.Levels den night))
   not_written x h e = rw (ne_eqb (length out) 4 h) (ap (λ (n : ℕ). (n, out)) e)
@@ -211,9 +203,6 @@ module _ (den night : Index) (out : List ℕ) where
   pub all_told : length out ≡ 4 → (result_of none, indices_in (Ok (answer.Levels den night))) ≡ tell_in out (Ok (answer.Levels den night))
   all_told h = rw (eq-eqb (length out) 4 h) refl
 
-  pub all_written : (m n x : ℕ) → length out ≡ 4 → m ≡ word den → n ≡ word night → x ≡ result_of (lastly false none)
-      → (x, set (set (set (set out 0 (m % 256)) 1 (m / 256 % 256)) 2 (n % 256)) 3 (n / 256 % 256)) ≡ tell_in out (Ok (answer.Levels den night))
-  all_written m n x h e f r =
-      ap₂ (λ (k : ℕ) (s : List ℕ). (k, s)) r
-      (four out _ _ _ _ h ∙ ap₂ (λ (a b : ℕ). a % 256 ∷ a / 256 % 256 ∷ b % 256 ∷ b / 256 % 256 ∷ []) e f)
-      ∙ all_told h
+  pub all_written : (x : ℕ) → length out ≡ 4 → x ≡ result_of (lastly false none)
+      → (x, indices_in (Ok (answer.Levels den night))) ≡ tell_in out (Ok (answer.Levels den night))
+  all_written x h r = ap (λ (k : ℕ). (k, indices_in (Ok (answer.Levels den night)))) r ∙ all_told h

@@ -12,10 +12,11 @@ ghost use Rattle.viewer.specs.Viewer.{result_of, lastly, cleared, applied, asked
 
 use answer::Refusal;
 use book::{Answer, Reply};
-use clerk::{Outcome, Report};
+use clerk::Outcome;
 use index::Index;
 
 // What quiet is as a number, and how many bytes an output has.
+// C's own: the head of a test's answer (the crate probe) says quiet by the same number, but the two are not to change together.
 const QUIET: u32 = 65535;
 
 const OUTPUT: usize = 4;
@@ -24,8 +25,8 @@ const OUTPUT: usize = 4;
 fn refused(why: Refusal) -> u32
     ensures { result ≡ result_of (some why) }
 {
-    let number = answer::number(why) as u32;
-    let place = answer::place(why) as u32;
+    let number = u32::from(answer::number(why));
+    let place = u32::from(answer::place(why));
     number * 1024 + place
 }
 
@@ -118,12 +119,9 @@ fn write_indices(out: &mut [u8], den: Index, night: Index) -> u32
     if out.len() != OUTPUT {
         return at_last(true);
     }
-    let a = word_of(den);
-    let b = word_of(night);
-    out[0] = (a % 256) as u8;
-    out[1] = (a / 256 % 256) as u8;
-    out[2] = (b % 256) as u8;
-    out[3] = (b / 256 % 256) as u8;
+    let [low_den, high_den, ..] = word_of(den).to_le_bytes();
+    let [low_night, high_night, ..] = word_of(night).to_le_bytes();
+    out.copy_from_slice(&[low_den, high_den, low_night, high_night]);
     at_last(false)
 }
 

@@ -12,11 +12,11 @@ use Rattle.afresh.proofs.begin_all.Goals as goal
 pub loop-j-init : goal.loop-j-init
 loop-j-init c = filled_none begun none (book_of c.args.store.now).receivers _ (sym (sound_book c.args.store.now c.requires).seats)
 
-pub seat-requires : goal.seat-requires
-seat-requires c = (c.loop-j-test.true, (undamaged c.args.store.now c.requires).0)
+pub read-requires : goal.read-requires
+read-requires c = (c.loop-j-test.true, (undamaged c.args.store.now c.requires).0)
 
 pub loop-j-preserved : goal.loop-j-preserved
 loop-j-preserved c =
     let s = c.args.store.now in
-    let e = c.begin.ensures ∙ ap begun (sym (seat_is s c.loop-j.j c.requires c.loop-j-test.true ∙ ap entry (sym c.seat.ensures))) in
+    let e = c.begin.ensures ∙ ap begun (sym (seat_is s c.loop-j.j c.requires c.loop-j-test.true ∙ ap entry (sym c.read.ensures))) in
     filled_next begun none (book_of s).receivers c.loop-j.t-items c.loop-j.j c.begin.result (omega (arith, (sound_book s c.requires).seats, c.loop-j-test.true)) e c.loop-j.invariant

@@ -11,10 +11,10 @@ use Rattle.afresh.proofs.hear.Goals as goal
 
 pub plus-sums-requires : goal.plus-sums-requires
 plus-sums-requires c =
-    let r = subst Ready c.in-Some.is c.requires.3 in
+    let r = subst Ready c.in-Some.is c.requires in
     let x = c.in-Some.x in
     let h = c.in-Ok.shares in
-    let k = heard_most (pair_of c.args.walls.now) (pair_bounded c.args.walls.now) c.args.s x.who h (sym c.in-Ok.ensures) in
+    let k = heard_most (pair_of c.args.walls.now) (pair_bounded c.args.walls.now) c.args.from.now x.who h (sym c.in-Ok.ensures) in
     let d : x.sums.day + h.day ≤ top = omega (arith, r.day, k 0) in
     let e : x.sums.evening + h.evening ≤ top = omega (arith, r.evening, k 1) in
     let n : x.sums.night + h.night ≤ top = omega (arith, r.night, k 2) in

@@ -12,18 +12,18 @@ use Rattle.ledger.proofs.Mapped.{turned, turned_none, turned_here, turned_next, 
 use Rattle.afresh.proofs.hear_all.Goals as goal
 
 pub loop-t-init : goal.loop-t-init
-loop-t-init c = turned_none (heard_from (pair_of c.args.walls.now) c.args.s) c.args.tallies.now
+loop-t-init c = turned_none (heard_from (pair_of c.args.walls.now) c.args.from.now) c.args.tallies.now
 
 pub hear-requires : goal.hear-requires
 hear-requires c =
-    let f : Tally → Tally = heard_from (pair_of c.args.walls.now) c.args.s in
+    let f : Tally → Tally = heard_from (pair_of c.args.walls.now) c.args.from.now in
     let j = c.loop-t.t-index in
     let e = ap (λ (ts : List Tally). get_or ts j (begun none)) c.loop-t.invariant ∙ turned_here f (begun none) c.args.tallies.now j in
-    (c.requires.0, c.requires.1, c.requires.2, subst (λ (t : Tally). Ready t.seat) (sym e) (c.requires.3.each j))
+    subst (λ (t : Tally). Ready t.seat) (sym e) (c.requires.each j)
 
 pub loop-t-preserved : goal.loop-t-preserved
 loop-t-preserved c =
-    let f : Tally → Tally = heard_from (pair_of c.args.walls.now) c.args.s in
+    let f : Tally → Tally = heard_from (pair_of c.args.walls.now) c.args.from.now in
     let l = c.args.tallies.now in
     let j = c.loop-t.t-index in
     let e = ap (λ (ts : List Tally). get_or ts j (begun none)) c.loop-t.invariant ∙ turned_here f (begun none) l j in
@@ -35,4 +35,4 @@ loop-t-preserved c =
 pub returns : goal.returns
 returns c =
     c.loop-t.invariant
-    ∙ turned_all (heard_from (pair_of c.args.walls.now) c.args.s) c.args.tallies.now c.loop-t.t-index (omega (arith, c.loop-t-test.false, c.requires.3.count))
+    ∙ turned_all (heard_from (pair_of c.args.walls.now) c.args.from.now) c.args.tallies.now c.loop-t.t-index (omega (arith, c.loop-t-test.false, c.requires.count))

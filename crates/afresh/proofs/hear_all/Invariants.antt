@@ -6,4 +6,4 @@ use Rattle.ledger.proofs.Mapped.{turned}
 use Rattle.afresh.proofs.hear_all.Given as goal
 
 abbrev pub invariant-loop-t : goal.invariant-loop-t
-invariant-loop-t l = l.tallies ≡ turned (heard_from (pair_of l.walls) l.s) l.initial.tallies l.t-index
+invariant-loop-t l = l.tallies ≡ turned (heard_from (pair_of l.walls) l.from) l.initial.tallies l.t-index

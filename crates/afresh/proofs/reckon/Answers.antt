@@ -17,7 +17,7 @@ use Rattle.afresh.proofs.reckon.Goals as goal
 
 pub loop-i-init : goal.loop-i-init
 loop-i-init c =
-    let b = sound_book c.args.store.now c.requires.0 in
+    let b = sound_book c.args.store.now c.requires in
     subst (λ (ts : List Tally). Reckoning c.args.walls.now c.args.store.now ts 0) (sym c.begin_all-tallies.ensures) (record {
       counted = counted_begun (book_of c.args.store.now).receivers b.seats b.receivers_stand;
       comes = heard_begun (pair_of c.args.walls.now) (book_of c.args.store.now).sources (book_of c.args.store.now).receivers;
@@ -26,7 +26,7 @@ loop-i-init c =
 pub hear_slot-requires : goal.hear_slot-requires
 hear_slot-requires c =
     let h : c.loop-i.i < source_count = omega (arith, c.loop-i-test.true) in
-    (c.requires.0, h, c.requires.1, counted_ready c.loop-i.i _ h c.loop-i.invariant.counted)
+    (c.requires, h, counted_ready c.loop-i.i _ h c.loop-i.invariant.counted)
 
 pub loop-i-preserved : goal.loop-i-preserved
 loop-i-preserved c =
@@ -34,10 +34,10 @@ loop-i-preserved c =
     let h : c.loop-i.i < source_count = omega (arith, c.loop-i-test.true) in
     subst (λ (ts : List Tally). Reckoning c.args.walls.now c.args.store.now ts (c.loop-i.i + 1)) (sym c.hear_slot.ensures) (record {
       counted = counted_next (pair_of ws) (pair_bounded ws) c.loop-i.i (get_or (book_of c.args.store.now).sources c.loop-i.i none) c.loop-i.tallies c.loop-i.invariant.counted;
-      comes = heard_next (pair_of ws) (book_of c.args.store.now).sources c.loop-i.i c.loop-i.tallies (omega (arith, (sound_book c.args.store.now c.requires.0).source_slots_lem)) ∙ c.loop-i.invariant.comes;
+      comes = heard_next (pair_of ws) (book_of c.args.store.now).sources c.loop-i.i c.loop-i.tallies (omega (arith, (sound_book c.args.store.now c.requires).source_slots_lem)) ∙ c.loop-i.invariant.comes;
     })
 
 pub returns : goal.returns
 returns c =
-    heard_over (pair_of c.args.walls.now) (book_of c.args.store.now).sources c.loop-i.i c.loop-i.tallies (omega (arith, (sound_book c.args.store.now c.requires.0).source_slots_lem, c.loop-i-test.false))
+    heard_over (pair_of c.args.walls.now) (book_of c.args.store.now).sources c.loop-i.i c.loop-i.tallies (omega (arith, (sound_book c.args.store.now c.requires).source_slots_lem, c.loop-i-test.false))
     ∙ c.loop-i.invariant.comes

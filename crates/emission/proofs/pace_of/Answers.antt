@@ -12,14 +12,10 @@ use Rattle.emission.proofs.pace_of.Goals as goal
 -- the two levels are those of the speeds in range
 module _ (c : goal.After-truck_level-truck) where
   car_is : c.car_level-car.result ≡ car_level (car_speed c.args.s.car)
-  car_is =
-      let v : c.clamp.result ≡ car_speed c.args.s.car = omega (arith, c.clamp.ensures, c.from.ensures) in
-      c.car_level-car.ensures ∙ ap car_level v
+  car_is = c.car_level-car.ensures ∙ ap car_level c.car_speed.ensures
 
   truck_is : c.truck_level-truck.result ≡ truck_level (truck_speed c.args.s.truck)
-  truck_is =
-      let u : c.clamp-2.result ≡ truck_speed c.args.s.truck = omega (arith, c.clamp-2.ensures, c.from-2.ensures) in
-      c.truck_level-truck.ensures ∙ ap truck_level u
+  truck_is = c.truck_level-truck.ensures ∙ ap truck_level c.truck_speed.ensures
 
   gain_is : c.truck_level-truck.result - c.car_level-car.result ≡ truck_gain (car_speed c.args.s.car) (truck_speed c.args.s.truck)
   gain_is = ap₂ ◌-◌ truck_is car_is

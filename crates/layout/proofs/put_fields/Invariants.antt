@@ -2,5 +2,5 @@
 use Rattle.layout.proofs.Turns.{Sent}
 use Rattle.layout.proofs.put_fields.Given as goal
 
-abbrev pub invariant-loop-i : goal.invariant-loop-i
-invariant-loop-i l = Sent l.initial.out l.ws l.vs l.out l.done l.have l.acc l.i
+abbrev pub invariant-loop-w : goal.invariant-loop-w
+invariant-loop-w l = Sent l.initial.out l.ws l.vs l.out l.done l.have l.acc l.w-iterator.a.rest.now l.w-iterator.b.rest.now

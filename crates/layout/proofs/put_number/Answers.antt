@@ -1,13 +1,14 @@
--- `put_number` meets its contract. What the loop has yet to write completes the write that is promised.
-use Rattle.std.proofs.Common.{arith, length-set}
-use Rattle.layout.proofs.Turns.{number_put, number_done}
+-- `put_number` meets its contract: the last n of eight bytes are the n bytes of a number.
+use Rattle.std.proofs.Common.{arith}
+use Rattle.layout.specs.Layout.{bytes_of}
+use Rattle.layout.proofs.Numbers.{length_bytes_of}
+use Rattle.layout.proofs.Turns.{number_bytes}
+use Rattle.layout.proofs.Writes.{over_lent}
 use Rattle.layout.proofs.put_number.Goals as goal
 
-pub loop-left-preserved : goal.loop-left-preserved
-loop-left-preserved c = (
-  simp length-set (omega arith),
-  number_put c.loop-left.out _ c.loop-left.i c.loop-left.left c.args.x (omega arith) (omega arith) c.loop-left.invariant.1,
-)
-
 pub returns : goal.returns
-returns c = number_done c.loop-left.out _ c.loop-left.i c.loop-left.left c.args.x (omega arith) c.loop-left.invariant.1
+returns c =
+    let n = c.args.n in
+    let x = c.args.x in
+    rw (c.copy_from_slice.ensures.after, c.to_be_bytes-bytes.ensures, number_bytes n x c.requires.0)
+    (over_lent c.args.at _ (bytes_of n x) c.args.out.now (omega (arith, length_bytes_of n x)))

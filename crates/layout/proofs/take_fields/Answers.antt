@@ -9,4 +9,4 @@ loop-i-init c = taken_none (omega arith) c.requires.ws_value
 pub loop-i-preserved : goal.loop-i-preserved
 loop-i-preserved c =
     taken_more c.loop-i.invariant c.requires.ws_value c.requires.ws_in_bounds.0 (λ i. (c.type_inv.s i).fits)
-    (omega arith) (omega arith) c.from-n.ensures c.one_field.ensures
+    (omega arith) (omega arith) c.from-n.ensures c.field.ensures

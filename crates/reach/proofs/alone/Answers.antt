@@ -1,8 +1,8 @@
 -- `alone` tries the bars in their order, and then hears. Assumes nothing.
-use Rattle.std.specs.Prelude.{Result, None, Err}
+use Rattle.std.specs.Prelude.{Result, None, Err, IfSome}
 use Rattle.std.specs.Option.{ok_or}
 use Rattle.std.proofs.lemmas.Result.{err_from_is_err_and}
-use mathlib.Core.Path.{◌≡◌, sym, ap, ◌∙◌}
+use mathlib.Core.Path.{◌≡◌, sym, ap, ◌∙◌, subst}
 use mathlib.Core.Option.{none}
 use Prim.Native.Nat.{ℕ, ◌+◌, ◌*◌, ◌-◌, ◌≤◌}
 use native.Mathlib.Omega.{arith}
@@ -12,7 +12,6 @@ use Rattle.screen.specs.Plan.{point}
 use Rattle.screen.specs.Section.{Reaches}
 use Rattle.screen.specs.Screen.{Loss, loss_of}
 use Rattle.screen.specs.declared.Wall.{Wall}
-use Rattle.screen.proofs.Lists.{loss_most}
 use mathlib.Core.List.{List}
 use Rattle.road.specs.declared.Bar.{Bar}
 use Rattle.road.specs.declared.Bar.TheVariants.{Near, Far, Long, Walls}
@@ -112,7 +111,7 @@ pub screened-requires-clause-fits : goal.screened-requires-clause-fits
 screened-requires-clause-fits c =
     let f = piece c.args.sent.whole c.requires.x_le_coordinate in
     let g = fit_receiver c.args.r c.requires.fits.1 in
-    (record { x = omega (arith, f.x); y = omega (arith, f.y) }, record { x = omega (arith, g.x); y = omega (arith, g.y) }, c.requires.fits.3)
+    (record { x = omega (arith, f.x); y = omega (arith, f.y) }, record { x = omega (arith, g.x); y = omega (arith, g.y) })
 
 pub screened-requires-clause-q0_value : goal.screened-requires-clause-q0_value
 unfolding plan_square
@@ -126,7 +125,7 @@ returns-in_err-screening c =
     let p = err_from_is_err_and c.from_residual.result c.from_residual.ensures.1 in
     let l = c.in_err-screening.ensures in
     let d = apart a.sent.whole a.r c.plan-q0.result c.space-q.result c.plan-q0.ensures c.space-q.ensures in
-    let t = taken a.walls.now a.sent.whole a.r c.plan-q0.result c.space-q.result c.screened.result d c.screened.ensures in
+    let t = taken a.walls.now a.sent.whole a.r c.plan-q0.result c.space-q.result c.screened.result d c.screened.ensures.0 in
     let k = placed a.sent.whole a.r c.plan-q0.result c.space-q.result d (omega (arith, c.if-q-lt-NEAREST.false)) (omega (arith, c.if-q-gt-FARTHEST.false))
     (omega (arith, ap (λ (n : ℕ). 4 * square n) c.from-long.ensures, c.if-q-long.false)) in
     p.1 ∙ ap {B = Pair} Err (p.2 ∙ why_is c.screened.result _ l.value l.ok_part)
@@ -149,8 +148,7 @@ hear-requires-clause-up_bound c =
     let f = piece a.sent.whole c.requires.x_le_coordinate in
     let r = fit_receiver a.r c.requires.fits.1 in
     let l = small_length a.sent.whole.length f.some f.short in
-    let e = reaches a.r c.plan-q0.result c.space-q.result r c.space-q.ensures (omega (arith, c.if-q-lt-NEAREST.false)) (omega (arith, c.if-q-gt-FARTHEST.false)) in
-    let d = loss_most _ _ a.r.height _ _ a.walls.now _ c.requires.fits.3 e (sym c.screened.ensures ∙ c.in_ok-screening.ensures.ok_part) in
+    let d = subst (λ (l : Loss). IfSome l (λ n. n ≤ 6000)) c.in_ok-screening.ensures.ok_part c.screened.ensures.1 in
     (rw c.requires.fits.2 l.up, rw c.requires.fits.2 l.down, d)
 
 pub returns : goal.returns
@@ -158,7 +156,7 @@ returns c =
     let a = c.args in
     let l = c.in_ok-screening.ensures in
     let d = apart a.sent.whole a.r c.plan-q0.result c.space-q.result c.plan-q0.ensures c.space-q.ensures in
-    let t = taken a.walls.now a.sent.whole a.r c.plan-q0.result c.space-q.result c.screened.result d c.screened.ensures in
+    let t = taken a.walls.now a.sent.whole a.r c.plan-q0.result c.space-q.result c.screened.result d c.screened.ensures.0 in
     let k = placed a.sent.whole a.r c.plan-q0.result c.space-q.result d (omega (arith, c.if-q-lt-NEAREST.false)) (omega (arith, c.if-q-gt-FARTHEST.false))
     (omega (arith, ap (λ (n : ℕ). 4 * square n) c.from-long.ensures, c.if-q-long.false)) in
     c.hear.ensures ∙ (λ i. hear_of a.sent.voices (c.requires.fits.2 i) (d.plan i) (d.space i) (c.from-h.ensures i) c.in_ok-screening.screening)

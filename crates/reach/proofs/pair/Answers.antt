@@ -1,6 +1,7 @@
 -- `pair` hears all of the road as one piece, and cuts one that is told by its ends. Assumes nothing.
 use mathlib.Core.Path.{◌≡◌, sym, ap, ◌∙◌, subst, subst⁻¹}
 use mathlib.Core.List.{List, [], ◌∷◌}
+use Rattle.course.specs.declared.Course.{Course}
 use Rattle.course.specs.declared.Piece.{Piece}
 use Rattle.course.specs.Course.{whole_of}
 use Rattle.screen.specs.declared.Wall.{Wall}
@@ -38,35 +39,45 @@ sent_by s sent ws r ps e f =
     ∙ (λ i. unless_barred (first_bar r ps) (unless_walls two (unless_loud (shares_by ws s r ps i))))
     ∙ sym (ap (pair_over (λ p i. share_of ws s p r i) (two_walls ws r) r) f)
 
+-- and the course that was asked for is the source's
+course : (s t : Source) (k : Course) → s ≡ t → s.course ≡ k → t.course ≡ k
+course s t k e f = sym (ap (λ (x : Source). x.course) e) ∙ f
+
 -- ---- the goals
 
 pub alone-requires-clause-fits : goal.alone-requires-clause-fits
 alone-requires-clause-fits c =
-    let f = fit_source c.args.s c.requires.0 in
-    (sounding c.args.s c.args.sent c.requires.1 f, c.requires.2, lengthened c.args.s c.args.sent c.requires.1, c.requires.3)
+    let s = c.args.from.now in
+    (sounding s c.sent-sent.result c.sent-sent.ensures (fit_source s c.source.ensures.1), c.requires, lengthened s c.sent-sent.result c.sent-sent.ensures)
 
 pub alone-requires-clause-x_le_coordinate : goal.alone-requires-clause-x_le_coordinate
 alone-requires-clause-x_le_coordinate c =
-    let f = piece c.args.s c.args.sent c.requires.1 (fit_source c.args.s c.requires.0) in
+    let f = piece c.args.from.now c.sent-sent.result c.sent-sent.ensures (fit_source c.args.from.now c.source.ensures.1) in
     (f.x, f.y, f.some, f.short)
 
 pub returns-in-Uncut : goal.returns-in-Uncut
 returns-in-Uncut c =
-    let w = whole c.args.s c.args.sent c.requires.1 in
+    let s = c.args.from.now in
+    let sent = c.sent-sent.result in
+    let k = course c.source.result s _ c.source.ensures.0 c.in-Uncut.is in
+    let w = whole s sent c.sent-sent.ensures in
     c.alone.ensures
-    ∙ sent_by c.args.s c.args.sent c.args.walls.now c.args.r (c.args.sent.whole ∷ []) c.requires.1
-    (ap (pieces_for c.args.r) c.in-Uncut.is ∙ sym (ap (λ (p : Piece). p ∷ []) (w ∙ ap whole_of c.in-Uncut.is)))
+    ∙ sent_by s sent c.args.walls.now c.args.r (sent.whole ∷ []) c.sent-sent.ensures
+    (ap (pieces_for c.args.r) k ∙ sym (ap (λ (p : Piece). p ∷ []) (w ∙ ap whole_of k)))
 
 pub along-requires-clause-fits : goal.along-requires-clause-fits
 along-requires-clause-fits c =
-    let f = fit_source c.args.s c.requires.0 in
-    (sounding c.args.s c.args.sent c.requires.1 f, c.requires.2, c.requires.3)
+    (sounding c.args.from.now c.sent-sent.result c.sent-sent.ensures (fit_source c.args.from.now c.source.ensures.1), c.requires)
 
 pub along-requires-clause-mapped : goal.along-requires-clause-mapped
 along-requires-clause-mapped c =
-    let e = c.in-Between.is in
-    let f = subst FitCourse e (fit_source c.args.s c.requires.0).course in
-    (f.mapped, whole c.args.s c.args.sent c.requires.1 ∙ ap whole_of e, f.some, f.short)
+    let s = c.args.from.now in
+    let k = course c.source.result s _ c.source.ensures.0 c.in-Between.is in
+    let f = subst FitCourse k (fit_source s c.source.ensures.1).course in
+    (f.mapped, whole s c.sent-sent.result c.sent-sent.ensures ∙ ap whole_of k, f.some, f.short)
 
 pub returns-in-Between : goal.returns-in-Between
-returns-in-Between c = c.along.ensures ∙ sent_by c.args.s c.args.sent c.args.walls.now c.args.r _ c.requires.1 (ap (pieces_for c.args.r) c.in-Between.is)
+returns-in-Between c =
+    let s = c.args.from.now in
+    let k = course c.source.result s _ c.source.ensures.0 c.in-Between.is in
+    c.along.ensures ∙ sent_by s c.sent-sent.result c.args.walls.now c.args.r _ c.sent-sent.ensures (ap (pieces_for c.args.r) k)

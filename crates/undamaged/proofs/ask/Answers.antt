@@ -18,4 +18,4 @@ pub returns : goal.returns
 unfolding ask_receiver
 returns c =
     let s = c.args.store.now in
-    c.indices.ensures ∙ all_allowed s last_receiver c.args.slot (Ok tt) (indices_at c.args.slot (book_of s)) c.in_ok-judge_slot.ensures refl
+    c.indices.ensures ∙ all_allowed s last_receiver c.args.slot (Ok tt) (λ n. indices_at n (book_of s)) _ c.from.ensures c.in_ok-judge_slot.ensures refl

@@ -11,7 +11,8 @@ use Rattle.store.specs.declared.Held.{Held}
 use Rattle.store.specs.Store.{Book, book, book_of, book_bytes}
 use Rattle.store.proofs.Laws.{sound_book}
 use Rattle.ledger.specs.Changes.{Change, exchange}
-use Rattle.ledger.specs.Ledger.{source_of, rounded}
+use Rattle.store.specs.Slots.{entry}
+use Rattle.ledger.specs.Ledger.{rounded}
 use Rattle.calls.specs.Calls.{pair_in}
 use Rattle.calls.proofs.Rounded.{exchange_sound, change_stand, told_barred, told_done}
 use Rattle.undamaged.proofs.change_source.Goals as goal
@@ -19,17 +20,17 @@ use Rattle.undamaged.proofs.change_source.Goals.{After-go_round}
 
 -- the change that is made, and the book after it
 abbrev made : After-go_round → Change
-made c = let b = book_of c.args.store.now in exchange (pair_in b) (get_or b.sources c.args.i none) (source_of c.args.comes)
+made c = let b = book_of c.args.store.now in exchange (pair_in b) (get_or b.sources c.args.i none) (entry c.args.comes)
 
 abbrev after : After-go_round → List (Option Held) → Book
-after c rs = let b = book_of c.args.store.now in book (set b.sources c.args.i (source_of c.args.comes)) rs b.walls
+after c rs = let b = book_of c.args.store.now in book (set b.sources c.args.i (entry c.args.comes)) rs b.walls
 
 -- the round was gone among the walls of the book, and who went is in the slot
 among : (c : After-go_round) → c.go_round.result ≡ rounded (made c) (book_of c.args.store.now).receivers
 among c =
     c.go_round.ensures
-    ∙ ap₂ (λ (pair : Pairing) (goes : Option Source). rounded (exchange pair goes (source_of c.args.comes)) (book_of c.args.store.now).receivers)
-    (ap pair_of c.standing-walls.ensures.walls) c.requires.4
+    ∙ ap₂ (λ (pair : Pairing) (goes : Option Source). rounded (exchange pair goes (entry c.args.comes)) (book_of c.args.store.now).receivers)
+    (ap pair_of c.standing-walls.ensures) c.requires.2
 
 pub returns-in_err-seats : goal.returns-in_err-seats
 returns-in_err-seats c =
@@ -43,11 +44,11 @@ write_seats-requires c =
     let b = book_of c.args.store.now in (
       c.requires.0,
       change_stand (made g) b c.in_ok-seats.seats (sym c.in_ok-seats.was ∙ among g)
-          (exchange_sound (pair_in b) (get_or b.sources c.args.i none) (source_of c.args.comes)) (sound_book c.args.store.now c.requires.0),
+          (exchange_sound (pair_in b) (get_or b.sources c.args.i none) (entry c.args.comes)) (sound_book c.args.store.now c.requires.0),
     )
 
 pub returns : goal.returns
 returns c =
     let g = (goal.at.returns c).After-go_round in
     told_done c.args.store.now (made g) (after g) c.in_ok-seats.seats _ (sym c.in_ok-seats.was ∙ among g)
-    (c.write_source.ensures ∙ ap (λ (b : Book). book_bytes (book (set b.sources c.args.i (source_of c.args.comes)) b.receivers b.walls)) c.write_seats.ensures.1)
+    (c.write_source.ensures ∙ ap (λ (b : Book). book_bytes (book (set b.sources c.args.i (entry c.args.comes)) b.receivers b.walls)) c.write_seats.ensures.1)

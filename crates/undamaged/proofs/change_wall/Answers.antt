@@ -27,7 +27,7 @@ after c rs = let b = book_of c.args.store.now in book b.sources rs (set b.walls 
 among : (c : After-go_afresh) → c.go_afresh.result ≡ rounded (made c) (book_of c.args.store.now).receivers
 among c =
     let b = book_of c.args.store.now in
-    c.go_afresh.ensures ∙ ap (λ (ws : List Wall). rounded (renewing (pair_of ws) (present b.sources)) b.receivers) c.changed-walls.ensures.walls
+    c.go_afresh.ensures ∙ ap (λ (ws : List Wall). rounded (renewing (pair_of ws) (present b.sources)) b.receivers) c.changed-walls.ensures
 
 pub write_seats-requires : goal.write_seats-requires
 write_seats-requires c =

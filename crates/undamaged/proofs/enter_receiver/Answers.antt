@@ -10,7 +10,7 @@ use Rattle.std.proofs.lemmas.Result.{err_from_is_err_and}
 use Rattle.screen.specs.declared.Wall.{Wall}
 use Rattle.road.specs.Reach.{pair_of}
 use Rattle.road.proofs.Pairs.{pair_bounded}
-use Rattle.ledger.specs.Ledger.{unless_stopped, gathered}
+use Rattle.ledger.specs.Ledger.{unless_stopped, gathered, SeatStands}
 use Rattle.answer.specs.declared.Refusal.{Refusal}
 use Rattle.account.specs.declared.Account.{Account}
 use Rattle.account.specs.Account.{sound}
@@ -35,20 +35,23 @@ summed (some r) a sums e = never cc
 
 -- the sources were gathered among the walls of the book
 among : (c : After-gather) → c.gather.result ≡ gathered (pair_in (book_of c.args.store.now)) c.args.r (book_of c.args.store.now).sources
-among c = c.gather.ensures ∙ ap (λ (ws : List Wall). gathered (pair_of ws) c.args.r (book_of c.args.store.now).sources) c.standing-walls.ensures.walls
+among c = c.gather.ensures ∙ ap (λ (ws : List Wall). gathered (pair_of ws) c.args.r (book_of c.args.store.now).sources) c.standing-walls.ensures
 
 pub returns-in_err-sums : goal.returns-in_err-sums
 returns-in_err-sums c =
     let p = err_from_is_err_and c.from_residual.result c.from_residual.ensures.1 in
     rw (p.1, p.2) (barred c.args.store.now _ _ _ _ (sym c.in_err-sums.was ∙ among (goal.at.returns-in_err-sums c).After-gather))
 
-pub put_held-requires : goal.put_held-requires
-put_held-requires c =
+pub put-requires : goal.put-requires
+put-requires c =
     let s = c.args.store.now in
     let b = book_of s in
-    let g = summed _ _ _ (sym c.in_ok-sums.was ∙ among (goal.at.put_held-requires c).After-gather) in
+    let g = summed _ _ _ (sym c.in_ok-sums.was ∙ among (goal.at.put-requires c).After-gather) in
     let small = weigh_sound (pair_in b) (pair_bounded (present b.walls)) b.sources c.args.r ((sound_book s c.requires.0).source_slots_lem ∙ sym many_sources) in
-    (c.requires.1, (undamaged s c.requires.0).0, (c.requires.2, subst (λ (a : Account). sound a ≡ true) (sym g.1) small))
+    record {
+      place = (c.requires.1, (undamaged s c.requires.0).0);
+      stands = λ x e. subst SeatStands e (c.requires.2, subst (λ (a : Account). sound a ≡ true) (sym g.1) small);
+    }
 
 pub returns : goal.returns
 returns c =
@@ -58,7 +61,7 @@ returns c =
     let g = summed _ _ _ (sym c.in_ok-sums.was ∙ among (goal.at.returns c).After-gather) in
     let held : Account → Option Held = λ a. some (record { who = r; sums = a }) in
     ap (λ (u : List ℕ). (Ok Done, u))
-    (c.put_held.ensures
+    (c.put.ensures
     ∙ set_held s c.args.j (held c.in_ok-sums.sums) (λ i. (c.slice_known-1.given i).fits) c.requires.0 c.requires.1
     ∙ ap (λ (a : Account). book_bytes (book b.sources (set b.receivers c.args.j (held a)) b.walls)) g.1)
     ∙ ap (λ (o : Option Refusal). told s (unless_barred o (change (book b.sources (set b.receivers c.args.j (some (weigh (pair_in b) (present b.sources) r))) b.walls)))) (sym g.0)

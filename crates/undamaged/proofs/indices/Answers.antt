@@ -20,21 +20,21 @@ use Rattle.undamaged.proofs.indices.Goals as goal
 abbrev levels : Held → Step
 levels x = tell (Ok (Levels (lden_of x.sums.day x.sums.evening x.sums.night) (lnight_of x.sums.night)))
 
-pub seat-requires : goal.seat-requires
-seat-requires c = (c.requires.1, (undamaged c.args.store.now c.requires.0).0)
+pub read-requires : goal.read-requires
+read-requires c = (c.requires.1, (undamaged c.args.store.now c.requires.0).0)
 
 pub returns-in_err-x : goal.returns-in_err-x
 returns-in_err-x c =
     let s = c.args.store.now in
     let p = err_from_is_err_and c.from_residual.result c.from_residual.ensures.1 in
     rw (p.1, p.2)
-    (found_free s (get_or (book_of s).receivers c.args.j none) levels c.seat.result _ (seat_is s c.args.j c.requires.0 c.requires.1 ∙ ap entry (sym c.seat.ensures)) c.in_err-x.ensures.value)
+    (found_free s (get_or (book_of s).receivers c.args.j none) levels c.read.result _ (seat_is s c.args.j c.requires.0 c.requires.1 ∙ ap entry (sym c.read.ensures)) c.in_err-x.ensures.value)
 
 pub lden-den-requires : goal.lden-den-requires
 lden-den-requires c =
     let s = c.args.store.now in
-    let f = found_used s (get_or (book_of s).receivers c.args.j none) levels c.seat.result c.in_ok-x.x
-    (seat_is s c.args.j c.requires.0 c.requires.1 ∙ ap entry (sym c.seat.ensures)) c.in_ok-x.ensures.value in
+    let f = found_used s (get_or (book_of s).receivers c.args.j none) levels c.read.result c.in_ok-x.x
+    (seat_is s c.args.j c.requires.0 c.requires.1 ∙ ap entry (sym c.read.ensures)) c.in_ok-x.ensures.value in
     let st = (sound_book s c.requires.0).receivers_stand c.args.j c.in_ok-x.x f.0 in
     let a = and_both _ _ st.1 in
     let b = and_both _ _ a.0 in
@@ -43,6 +43,6 @@ lden-den-requires c =
 pub returns : goal.returns
 returns c =
     let s = c.args.store.now in
-    let f = found_used s (get_or (book_of s).receivers c.args.j none) levels c.seat.result c.in_ok-x.x
-    (seat_is s c.args.j c.requires.0 c.requires.1 ∙ ap entry (sym c.seat.ensures)) c.in_ok-x.ensures.value in
+    let f = found_used s (get_or (book_of s).receivers c.args.j none) levels c.read.result c.in_ok-x.x
+    (seat_is s c.args.j c.requires.0 c.requires.1 ∙ ap entry (sym c.read.ensures)) c.in_ok-x.ensures.value in
     (λ i. (Ok (Levels (c.lden-den.ensures i) (c.lnight-night.ensures i)), s)) ∙ f.1

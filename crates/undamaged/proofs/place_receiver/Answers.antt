@@ -30,5 +30,5 @@ returns c =
     let s = c.args.store.now in
     let e =
     c.enter_receiver.ensures
-    ∙ all_allowed s last_receiver c.args.slot (receiver_verdict c.args.r) (change_receiver c.args.slot (some c.args.r) (book_of s)) c.in_ok-judge_slot.ensures c.in_ok-judge_receiver.ensures in
+    ∙ all_allowed s last_receiver c.args.slot (receiver_verdict c.args.r) (λ n. change_receiver n (some c.args.r) (book_of s)) _ c.from.ensures c.in_ok-judge_slot.ensures c.in_ok-judge_receiver.ensures in
     (e, receiver_in_kept s c.requires c.args.slot c.args.r e)

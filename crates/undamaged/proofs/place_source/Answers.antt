@@ -31,5 +31,5 @@ returns c =
     let s = c.args.store.now in
     let e =
     c.enter_source.ensures
-    ∙ all_allowed s last_source c.args.slot (source_verdict c.args.s) (change_source c.args.slot (some c.args.s) (book_of s)) c.in_ok-judge_slot.ensures c.in_ok-judge_source.ensures in
+    ∙ all_allowed s last_source c.args.slot (source_verdict c.args.s) (λ n. change_source n (some c.args.s) (book_of s)) _ c.from.ensures c.in_ok-judge_slot.ensures c.in_ok-judge_source.ensures in
     (e, source_in_kept s c.requires c.args.slot c.args.s (owned_periods c.args.s _ c.well_formed.1.1.0) e)

@@ -30,5 +30,5 @@ returns c =
     let s = c.args.store.now in
     let e =
     c.change_wall.ensures
-    ∙ all_allowed s last_wall c.args.slot (wall_verdict c.args.w) (change_wall c.args.slot (some c.args.w) (book_of s)) c.in_ok-judge_slot.ensures c.in_ok-judge_wall.ensures in
+    ∙ all_allowed s last_wall c.args.slot (wall_verdict c.args.w) (λ n. change_wall n (some c.args.w) (book_of s)) _ c.from.ensures c.in_ok-judge_slot.ensures c.in_ok-judge_wall.ensures in
     (e, wall_in_kept s c.requires c.args.slot c.args.w e)

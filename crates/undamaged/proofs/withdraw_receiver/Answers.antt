@@ -19,5 +19,5 @@ pub returns : goal.returns
 unfolding withdraw_receiver
 returns c =
     let s = c.args.store.now in
-    let e = c.leave_receiver.ensures ∙ all_allowed s last_receiver c.args.slot (Ok tt) (leave_receiver c.args.slot (book_of s)) c.in_ok-judge_slot.ensures refl in
+    let e = c.leave_receiver.ensures ∙ all_allowed s last_receiver c.args.slot (Ok tt) (λ n. leave_receiver n (book_of s)) _ c.from.ensures c.in_ok-judge_slot.ensures refl in
     (e, receiver_out_kept s c.requires c.args.slot e)

@@ -19,5 +19,5 @@ pub returns : goal.returns
 unfolding withdraw_wall
 returns c =
     let s = c.args.store.now in
-    let e = c.leave_wall.ensures ∙ all_allowed s last_wall c.args.slot (Ok tt) (leave_wall c.args.slot (book_of s)) c.in_ok-judge_slot.ensures refl in
+    let e = c.leave_wall.ensures ∙ all_allowed s last_wall c.args.slot (Ok tt) (λ n. leave_wall n (book_of s)) _ c.from.ensures c.in_ok-judge_slot.ensures refl in
     (e, wall_out_kept s c.requires c.args.slot e)

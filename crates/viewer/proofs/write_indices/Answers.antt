@@ -1,4 +1,4 @@
--- `write_indices` writes the four bytes one by one, or none. Assumes nothing.
+-- `write_indices` writes the four bytes, or none.
 use Rattle.viewer.proofs.Laws.{not_written, all_written}
 use Rattle.viewer.proofs.write_indices.Goals as goal
 
@@ -8,4 +8,5 @@ returns-then-out-ne-OUTPUT c =
 
 pub returns : goal.returns
 returns c =
-    all_written c.args.den c.args.night c.args.out.now _ _ _ c.if-out-ne-OUTPUT.false c.word_of-a.ensures c.word_of-b.ensures c.at_last-2.ensures
+    rw (c.copy_from_slice.ensures.after, c.to_le_bytes.ensures, c.to_le_bytes-2.ensures, c.word_of.ensures, c.word_of-2.ensures)
+    (all_written c.args.den c.args.night c.args.out.now _ c.if-out-ne-OUTPUT.false c.at_last-2.ensures)

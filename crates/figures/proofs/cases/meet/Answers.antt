@@ -9,7 +9,6 @@ use Rattle.road.specs.declared.Shares.{Shares}
 use Rattle.road.specs.Results.{Pair}
 use mathlib.Core.Path.{◌≡◌, refl, sym, ap, ◌∙◌}
 use Rattle.road.specs.Judge.{receiver_verdict}
-use mathlib.Core.List.{[]}
 use Rattle.std.proofs.lemmas.List.Elements.{All-nil}
 use Rattle.screen.specs.Plan.{WallOnPlan}
 use Rattle.road.specs.Reach.{pair_of}
@@ -25,10 +24,16 @@ heard : (p : Pair) (r : Result Shares Refusal) (Q : Bar → Type 0) (h : Shares)
 heard (Ok x) r Q h m v e = grind arith
 heard (Err b) r Q h m v e = grind arith
 
+pub sends-requires : goal.sends-requires
+sends-requires c = sym c.in_ok-judge_source.ensures
+
 pub pair-requires : goal.pair-requires
-pair-requires c = (sym c.in_ok-judge_source.ensures, c.send.ensures, ap receiver_verdict c.point.ensures ∙ home_allowed, All-nil WallOnPlan)
+pair-requires c = ap receiver_verdict c.point.ensures ∙ home_allowed
+
+pub of-requires : goal.of-requires
+of-requires c = All-nil WallOnPlan
 
 pub returns : goal.returns
 returns c = λ h e.
-    sym (c.pair.ensures ∙ ap (pair_of [] c.args.s) c.point.ensures)
+    sym (c.pair.ensures ∙ (λ i. pair_of (c.of.ensures i) (c.sends.ensures i) (c.point.ensures i)))
     ∙ heard c.pair.result c.map_err.result _ h c.map_err.ensures.cases c.map_err.ensures.variant e

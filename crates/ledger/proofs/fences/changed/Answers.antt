@@ -1,17 +1,18 @@
 -- `changed` gathers the walls of one slot after the other. Assumes nothing.
 use Rattle.std.specs.Prelude.{None, Some}
+use mathlib.Core.Bool.{false}
 use mathlib.Core.Path.{◌≡◌, sym, ap, ◌∙◌, subst}
 use mathlib.Core.Option.{Option, some}
 use mathlib.Core.List.{List}
-use Prim.Native.Nat.{ℕ, ◌<◌}
+use Prim.Native.Nat.{ℕ, ◌≤◌, ◌<◌}
 use native.Mathlib.Omega.{arith}
 use lib.ListN.{length, set, length-set}
 use Rattle.screen.specs.declared.Wall.{Wall}
 use Rattle.store.specs.Slots.{entry}
-use Rattle.store.specs.Store.{book_of, WallSlot, WallStands}
+use Rattle.store.specs.Store.{wall_count, damaged, book_of, WallSlot, WallStands}
 use Rattle.store.proofs.Laws.{sound_book, sound_wall}
 use Rattle.ledger.specs.Ledger.{WallMayStand}
-use Rattle.ledger.proofs.Laying.{laying_free, laying_wall, fenced}
+use Rattle.ledger.proofs.Laying.{laying_free, laying_wall, laying_all, laying_on_plan}
 use Rattle.ledger.proofs.fences.changed.Goals as goal
 use Rattle.ledger.proofs.fences.changed.Goals.{in-Some, in_default}
 
@@ -19,6 +20,10 @@ use Rattle.ledger.proofs.fences.changed.Goals.{in-Some, in_default}
 comes : (w : WallSlot) → WallMayStand w → (v : Wall) → entry w ≡ some v → WallStands v
 comes None h v e = absurd (let z : ◌≡◌ {A = ℕ} 0 1 = cc in omega arith)
 comes (Some w) h v e = let k : w ≡ v = cc in subst WallStands k h
+
+-- after the last slot there is no other
+over : (s : List ℕ) (k : ℕ) (w : WallSlot) (i : ℕ) → damaged s ≡ false → wall_count ≤ i → length (set (book_of s).walls k (entry w)) ≤ i
+over s k w i h m = omega (arith, length-set (book_of s).walls k (entry w), (sound_book s h).wall_slots_lem, m)
 
 pub loop-i-preserved : goal.loop-i-preserved
 loop-i-preserved c =
@@ -32,10 +37,13 @@ loop-i-preserved c =
       | in_default w ↦ rw (w.room-is, w.n-is) (laying_free l c.loop-i.room c.loop-i.n c.loop-i.i m c.loop-i.invariant w.in_default.ensures)
     ]
 
-pub returns : goal.returns
-returns c =
+pub of-requires : goal.of-requires
+of-requires c =
     let b = book_of c.args.store.now in
     let stands = (sound_wall b c.args.k (entry c.args.w) (sound_book c.args.store.now c.requires.0) (comes c.args.w c.requires.1)).walls_stand in
-    let n = length-set b.walls c.args.k (entry c.args.w) in
-    fenced (set b.walls c.args.k (entry c.args.w)) c.loop-i.room c.loop-i.n c.loop-i.i stands
-    (omega (arith, n, (sound_book c.args.store.now c.requires.0).wall_slots_lem, c.loop-i-test.false)) c.loop-i.invariant
+    laying_on_plan _ c.loop-i.room c.loop-i.n c.loop-i.i (over c.args.store.now c.args.k c.args.w c.loop-i.i c.requires.0 (omega (arith, c.loop-i-test.false))) c.loop-i.invariant stands
+
+pub returns : goal.returns
+returns c =
+    c.of.ensures
+    ∙ laying_all _ c.loop-i.room c.loop-i.n c.loop-i.i (over c.args.store.now c.args.k c.args.w c.loop-i.i c.requires.0 (omega (arith, c.loop-i-test.false))) c.loop-i.invariant

@@ -19,12 +19,12 @@ returns-then-k-changes c =
     (ap (λ (n : ℕ). get_or (set l c.args.changes o) n none) c.if-k-changes.true
     ∙ get_or-set_same l c.args.changes o none (omega (arith, (sound_book c.args.store.now c.requires.0).wall_slots_lem, c.requires.1, c.if-k-changes.true)))
 
-pub wall_slot-requires : goal.wall_slot-requires
-wall_slot-requires c = (c.requires.1, (undamaged c.args.store.now c.requires.0).0)
+pub read-requires : goal.read-requires
+read-requires c = (c.requires.1, (undamaged c.args.store.now c.requires.0).0)
 
 pub returns : goal.returns
 returns c =
     let s = c.args.store.now in
     sym
     (get_or-set_other (book_of s).walls c.args.changes c.args.k (entry c.args.other) none c.if-k-changes.false
-    ∙ wall_slot_is s c.args.k c.requires.0 c.requires.1 ∙ ap entry (sym c.wall_slot.ensures))
+    ∙ wall_slot_is s c.args.k c.requires.0 c.requires.1 ∙ ap entry (sym c.read.ensures))

@@ -11,5 +11,4 @@ use Rattle.ledger.proofs.fences.standing.Goals as goal
 pub returns : goal.returns
 returns c =
     let b = book_of c.args.store.now in
-    let e = ap present (set_out b.walls 64 none (omega (arith, (sound_book c.args.store.now c.requires).wall_slots_lem))) in
-    record { walls = c.changed.ensures.walls ∙ e; on_plan = c.changed.ensures.on_plan }
+    c.changed.ensures ∙ ap present (set_out b.walls 64 none (omega (arith, (sound_book c.args.store.now c.requires).wall_slots_lem)))

@@ -12,6 +12,7 @@ use Rattle.road.specs.Results.{Pair}
 use Rattle.road.specs.Pairs.{Pairing}
 use Rattle.road.proofs.Pairs.{pair_bounded}
 use Rattle.account.specs.declared.Account.{Account}
+use Rattle.account.specs.Account.{nothing}
 use Rattle.store.specs.Store.{book_of}
 use Rattle.store.proofs.Laws.{sound_book}
 use Rattle.ledger.specs.Ledger.{offer_of}
@@ -29,7 +30,13 @@ unoffered pair r none e = λ i. none
 unoffered pair r (some s) e = absurd (let z : ◌≡◌ {A = ℕ} 0 1 = cc in omega arith)
 
 pub loop-i-init : goal.loop-i-init
-loop-i-init c = gather_begun (pair_of c.args.walls.now) (pair_bounded c.args.walls.now) c.args.r (book_of c.args.store.now).sources
+loop-i-init c =
+    let pair : Pairing = pair_of c.args.walls.now in
+    let bounded = pair_bounded c.args.walls.now in
+    let l = (book_of c.args.store.now).sources in
+    let z = c.default-sums.ensures in
+    let e : c.default-sums.result ≡ nothing = λ i. record { day = z.0 i; evening = z.1.0 i; night = z.1.1 i } in
+    subst (λ (a : Account). Gathers pair bounded c.args.r l a 0) (sym e) (gather_begun pair bounded c.args.r l)
 
 pub returns-in-Some-Err : goal.returns-in-Some-Err
 returns-in-Some-Err c =

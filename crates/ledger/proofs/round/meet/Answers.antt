@@ -10,8 +10,9 @@ use Rattle.road.specs.Pairs.{Pairing}
 use Rattle.road.specs.Reach.{pair_of}
 use Rattle.store.specs.declared.Held.{Held}
 use Rattle.ledger.specs.declared.round.Turn.TheVariants.{Barred}
+use Rattle.store.specs.Slots.{entry}
 use Rattle.ledger.specs.Changes.{pair_by, exchange}
-use Rattle.ledger.specs.Ledger.{source_of, exchanged_by, turn_of}
+use Rattle.ledger.specs.Ledger.{exchanged_by, turn_of}
 use Rattle.ledger.proofs.round.meet.Goals as goal
 
 module _ (pair : Pairing) (goes comes : Option Source) (x : Held) where
@@ -29,9 +30,9 @@ module _ (pair : Pairing) (goes comes : Option Source) (x : Held) where
 
 pub returns-in-Err : goal.returns-in-Err
 returns-in-Err c =
-    barred (pair_of c.args.walls.now) (source_of c.args.goes) (source_of c.args.comes) c.args.x _ (sym c.in-Err.ensures)
+    barred (pair_of c.args.walls.now) (entry c.args.goes.now) (entry c.args.comes.now) c.args.x _ (sym c.in-Err.ensures)
 
 pub returns-in-Ok : goal.returns-in-Ok
 returns-in-Ok c =
     c.exchanged.ensures
-    ∙ heard (pair_of c.args.walls.now) (source_of c.args.goes) (source_of c.args.comes) c.args.x _ (sym c.in-Ok.ensures) _ c.heard_at-in-Ok.ensures
+    ∙ heard (pair_of c.args.walls.now) (entry c.args.goes.now) (entry c.args.comes.now) c.args.x _ (sym c.in-Ok.ensures) _ c.heard_at-in-Ok.ensures

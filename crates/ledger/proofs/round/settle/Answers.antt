@@ -6,13 +6,16 @@ use Rattle.store.proofs.Laws.{undamaged, bytes_book, set_held}
 use Rattle.ledger.specs.Ledger.{SeatStands, settled}
 use Rattle.ledger.proofs.round.settle.Goals as goal
 
-pub put_held-requires : goal.put_held-requires
-put_held-requires c =
-    (c.requires.1, (undamaged c.args.store.now c.requires.0).0, subst SeatStands c.in-Some.is c.requires.2)
+pub put-requires : goal.put-requires
+put-requires c =
+    record {
+      place = (c.requires.1, (undamaged c.args.store.now c.requires.0).0);
+      stands = λ x e. subst SeatStands (c.in-Some.is ∙ e) c.requires.2;
+    }
 
 pub returns-in-Some : goal.returns-in-Some
 returns-in-Some c =
-    c.put_held.ensures
+    c.put.ensures
     ∙ set_held c.args.store.now c.args.j (some c.in-Some.x) (λ i. (c.slice_known-1.given i).fits) c.requires.0 c.requires.1
     ∙ ap (λ (t : Seat). book_bytes (settled t c.args.j (book_of c.args.store.now))) (sym c.in-Some.is)
 

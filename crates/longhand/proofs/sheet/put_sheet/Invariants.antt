@@ -3,4 +3,4 @@ use Rattle.longhand.proofs.Rows.{SoFar}
 use Rattle.longhand.proofs.sheet.put_sheet.Given as goal
 
 abbrev pub invariant-loop-i : goal.invariant-loop-i
-invariant-loop-i l = SoFar l.q l.n l.i l.place l.line l.initial.at l.at l.initial.out l.out
+invariant-loop-i l = SoFar l.q l.n l.i l.place l.line l.initial.page l.page
