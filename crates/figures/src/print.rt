@@ -11,24 +11,15 @@ pub fn text(rt: &HostRuntime, bytes: &[u8]) {
 
 // The name k of a list, one to a line.
 pub fn name(rt: &HostRuntime, names: &[u8], k: usize) {
-    let mut left = k;
-    for byte in names {
-        if *byte == b'\n' {
-            if left == 0 {
-                return;
-            }
-            left -= 1;
-        } else if left == 0 {
-            text(rt, &[*byte]);
-        }
+    if let Some(line) = names.split(|b| *b == b'\n').nth(k) {
+        text(rt, line);
     }
 }
 
 // A number.
 pub fn number(rt: &HostRuntime, names: &[u8], k: usize, n: u64) {
     name(rt, names, k);
-    let _ = rt.print(n);
-    text(rt, b"\n");
+    let _ = println!(rt; "{n}");
 }
 
 // A level, which may be below 0: what it adds less what it takes off.
@@ -57,12 +48,14 @@ pub fn word(rt: &HostRuntime, names: &[u8], k: usize, outcome: &[u8]) {
 // A refusal, by its number.
 pub fn refusal(rt: &HostRuntime, names: &[u8], k: usize, why: Refusal) {
     name(rt, names, k);
-    number(rt, b"refused ", 0, u64::from(answer::number(why)));
+    let number = answer::number(why);
+    let _ = println!(rt; "refused {number}");
 }
 
 // A refusal, by its number and its place.
 pub fn refusal_at(rt: &HostRuntime, names: &[u8], k: usize, why: Refusal) {
-    word(rt, names, k, b"refused ");
-    let _ = rt.print(u64::from(answer::number(why)));
-    number(rt, b" at ", 0, u64::from(answer::place(why)));
+    name(rt, names, k);
+    let number = answer::number(why);
+    let place = answer::place(why);
+    let _ = println!(rt; "refused {number} at {place}");
 }

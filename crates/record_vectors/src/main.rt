@@ -10,10 +10,6 @@ fn print(rt: &HostRuntime, text: &[u8]) {
     let _ = rt.write_all(text);
 }
 
-fn print_number(rt: &HostRuntime, n: u64) {
-    let _ = rt.print(n);
-}
-
 fn print_bytes(rt: &HostRuntime, bytes: &[u8]) {
     for b in bytes {
         let _ = print!(rt; "{b:02x}");
@@ -21,10 +17,9 @@ fn print_bytes(rt: &HostRuntime, bytes: &[u8]) {
 }
 
 fn print_refusal(rt: &HostRuntime, why: Refusal) {
-    print(rt, b"refused ");
-    print_number(rt, u64::from(answer::number(why)));
-    print(rt, b" at ");
-    print_number(rt, u64::from(answer::place(why)));
+    let number = answer::number(why);
+    let place = answer::place(why);
+    let _ = print!(rt; "refused {number} at {place}");
 }
 
 // Writes a call, and prints why not, if it is refused, and what the output holds then.
@@ -39,9 +34,8 @@ fn write(rt: &HostRuntime, call: Request, source: Source, out: &mut [u8]) {
 
 // Reads a job, prints the length of the part, and writes the record again.
 fn again(rt: &HostRuntime, job: &[u8]) {
-    let part = record::part(job);
-    print_number(rt, part.len() as u64);
-    print(rt, b" ");
+    let length = record::part(job).len();
+    let _ = print!(rt; "{length} ");
     let reading = record::read(job);
     match reading.told {
         Ok(call) => {
