@@ -14,7 +14,7 @@ use std::marker::Model;
 
 // A source that sends: what it sends is worked out once, for all points.
 // The source is allowed, and what is sent is what it sends.
-#[derive(Drop)]
+#[derive(Clone, Copy)]
 pub struct Sender {
     sent: Sent,
     source: Source,
@@ -22,6 +22,7 @@ pub struct Sender {
 
 impl Model for Sender {
     ghost use Rattle.std.specs.Prelude.{◌≡◌, Ok};
+    ghost use Rattle.std.proofs.Math.Path.{sym};
     ghost use Rattle.road.specs.declared.Source.{Source};
     ghost use Rattle.road.specs.Judge.{source_verdict};
     ghost use Rattle.road.specs.Inner.{sent_of};
@@ -31,6 +32,11 @@ impl Model for Sender {
     ghost view = { λ p. p.source };
 
     ghost invariant = { λ p. (source_verdict p.source ≡ Ok tt) × (p.sent ≡ sent_of p.source) };
+
+    // What it sends is the source's, so that a source alone gives a sender back, which is copied.
+    ghost inverse = { λ s. record { sent = sent_of s; source = s } };
+
+    ghost inverse_ok = { λ p h i. record { sent = sym h.1 i; source = p.source } };
 }
 
 // How many surfaces and how many codes of reflection there are.
