@@ -22,7 +22,7 @@ pub record Placed {A : Type 0} (p : Party A) (n count begin : ℕ) (place : ℕ 
 abbrev pub source_place : ℕ → ℕ
 source_place i = i * source_size
 
-pub source_placed : Placed source_party 21 source_count 0 source_place source_at source_slot_of
+pub source_placed : Placed source_party (length (party_layout source_party)) source_count 0 source_place source_at source_slot_of
 unfolding source_slots store_length source_slot_of
 source_placed =
     record {
@@ -39,7 +39,7 @@ source_placed =
 abbrev pub receiver_place : ℕ → ℕ
 receiver_place j = split + j * receiver_size
 
-pub held_placed : Placed held_party 7 receiver_count split receiver_place receiver_at seat_of
+pub held_placed : Placed held_party (length (party_layout held_party)) receiver_count split receiver_place receiver_at seat_of
 unfolding receiver_slots split store_length seat_of
 held_placed =
     record {
@@ -56,7 +56,7 @@ held_placed =
 abbrev pub wall_place : ℕ → ℕ
 wall_place k = walls_begin + k * wall_size
 
-pub wall_placed : Placed wall_party 6 wall_count walls_begin wall_place wall_at wall_slot_of
+pub wall_placed : Placed wall_party (length (party_layout wall_party)) wall_count walls_begin wall_place wall_at wall_slot_of
 unfolding wall_slots walls_begin store_length wall_slot_of
 wall_placed =
     record {

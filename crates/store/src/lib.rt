@@ -15,7 +15,7 @@ ghost use Rattle.std.specs.Prelude.{◌≡◌, length};
 ghost use Rattle.store.specs.Store.{store_length, damaged, cleared_bytes};
 
 use account::Account;
-pub use party::{put, read};
+pub use party::{described, put, read};
 use road::{Receiver, Source};
 use screen::Wall;
 

@@ -1,7 +1,7 @@
 // What stands in slots, be it a source, a receiver with its account or a wall: read, written and looked at for damage, once for all of them.
 // Each says where its slots are, what their numbers mean, and who may stand there.
 ghost use Rattle.std.specs.Prelude.{◌≡◌, ℕ, List, Option as RustOption, Some, ◌∷◌, ◌<◌, length, drop};
-ghost use Rattle.layout.specs.Layout.{Within};
+ghost use Rattle.layout.specs.Layout.{Within, fields};
 ghost use Rattle.layout.specs.Over.{over};
 ghost use Rattle.road.specs.Fields.{Fit};
 ghost use Rattle.store.specs.Slots.{Party, party_layout, slot_size, slot_of, slot_bytes, entry, found, is_torn, any_torn};
@@ -59,12 +59,20 @@ pub fn read<P: Slotted<N>, const N: usize>(store: &[u8], i: usize) -> Option<P>
     requires { (i < P.count) × (length store.now ≡ store_length) }
     ensures { result ≡ P.reading (P.slot i store.now) }
 {
-    let slots = P::slots();
-    if !slots.marked(store, i) {
+    if !P::slots().marked(store, i) {
         return None;
     }
+    Some(described(store, i))
+}
+
+// Who the numbers of slot i describe, whatever its mark says, in a store that is damaged too.
+pub fn described<P: Slotted<N>, const N: usize>(store: &[u8], i: usize) -> P
+    requires { (i < P.count) × (length store.now ≡ store_length) }
+    ensures { result ≡ P.party.from (fields (party_layout P.party) (P.slot i store.now)) }
+{
+    let slots = P::slots();
     let v = slots.numbers(store, i);
-    Some(P::from_numbers(&v))
+    P::from_numbers(&v)
 }
 
 // Whether slot i is torn: its numbers are neither all zero nor those of one in use that may stand.

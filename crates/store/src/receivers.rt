@@ -11,7 +11,9 @@ use account::Account;
 use fields::RECEIVER;
 
 // A slot's numbers: its mark, a receiver's values, and the three sums.
-const NUMBERS: usize = 1 + fields::RECEIVER_ROWS + 3;
+const SUMS: usize = 1 + fields::RECEIVER_ROWS;
+
+const NUMBERS: usize = SUMS + 3;
 
 // Where they stand, and the widths of the numbers: a byte for the mark, the bytes of each field, and eight bytes for a sum.
 static SLOTS: Slots<NUMBERS> = Slots {
@@ -65,13 +67,16 @@ impl Slotted<NUMBERS> for Held {
     }
 
     fn numbers(self) -> [u64; NUMBERS] {
-        let [x, y, height] = fields::receiver_values(self.who);
         let Account {
             day,
             evening,
             night,
         } = self.sums;
-        [1, x, y, height, day, evening, night]
+        let mut v = [0; NUMBERS];
+        v[0] = 1;
+        v[1..SUMS].copy_from_slice(&fields::receiver_values(self.who));
+        v[SUMS..].copy_from_slice(&[day, evening, night]);
+        v
     }
 
     ghost placed = { held_placed };

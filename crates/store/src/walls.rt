@@ -56,8 +56,10 @@ impl Slotted<NUMBERS> for Wall {
     }
 
     fn numbers(self) -> [u64; NUMBERS] {
-        let [x1, y1, x2, y2, height] = fields::wall_values(self);
-        [1, x1, y1, x2, y2, height]
+        let mut v = [0; NUMBERS];
+        v[0] = 1;
+        v[1..].copy_from_slice(&fields::wall_values(self));
+        v
     }
 
     ghost placed = { wall_placed };
