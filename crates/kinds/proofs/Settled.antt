@@ -32,3 +32,13 @@ fields_of_settled l a = settled _ _
 
 layout_of_settled : Settles (λ l a r e. r.now) proofs.layout_of.Reads.Post
 layout_of_settled l a = settled _ _
+
+-- and of any number
+shape_of_number_settled : SettlesResult proofs.shape_of_number.Reads.Post
+shape_of_number_settled l a = settled _ _
+
+layout_of_number_settled : Settles (λ l a r e. r.now) proofs.layout_of_number.Reads.Post
+layout_of_number_settled l a = settled _ _
+
+source_of_number_settled : SettlesResult proofs.source_of_number.Reads.Post
+source_of_number_settled l a = settled _ _

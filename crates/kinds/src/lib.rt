@@ -224,6 +224,30 @@ pub fn layout_of(kind: Kind) -> &'static [u8]
     row(kind).0
 }
 
+// The same of a number with which a record may begin: one that names no kind has no field and no byte.
+pub fn shape_of_number(number: usize) -> Shape
+    ensures { result ≡ shape_of number }
+{
+    match Kind::of(number as u64) {
+        Some(kind) => shape_of(kind),
+        None => Shape {
+            count: 0,
+            fields: 0,
+            bytes: 0,
+        },
+    }
+}
+
+// And no layout.
+pub fn layout_of_number(number: usize) -> &'static [u8]
+    ensures { result.now ≡ layout_of number }
+{
+    match Kind::of(number as u64) {
+        Some(kind) => layout_of(kind),
+        None => &[],
+    }
+}
+
 // What the fields of a kind ask for.
 #[tactic(auto, unfolding(request::specs::Kinds::kind_at))]
 pub fn call(kind: Kind, v: &[u64]) -> Request
@@ -348,7 +372,8 @@ fn uncut_source(v: &[u64]) -> Source
     ensures { result ≡ source_in (number_of PlaceUncut) v.now }
 {
     let course = Course::Uncut(fields::piece_of(v, FIRST));
-    fields::source_of(course, v, AFTER_PIECE)
+    let s = fields::source_of(course, v, AFTER_PIECE);
+    s
 }
 
 // The one that a daily figure stands for.
@@ -385,6 +410,17 @@ pub fn source(kind: Kind, v: &[u64]) -> Source
         | Kind::Ask
         | Kind::PlaceWall
         | Kind::WithdrawWall => blank(),
+    }
+}
+
+// The same of a number with which a record may begin: one that names no kind has a source of zeros beside it.
+pub fn source_of_number(number: usize, v: &[u64]) -> Source
+    requires { Within (layout_of number) v.now }
+    ensures { result ≡ source_in number v.now }
+{
+    match Kind::of(number as u64) {
+        Some(kind) => source(kind, v),
+        None => blank(),
     }
 }
 

@@ -16,12 +16,12 @@ unfolding kind_at
 piece_of-requires c =
     table_fits piece_table (kind_bits ∷ source_slot_bits ∷ []) (bits_by source_table) c.args.v.now refl c.requires
 
-pub source_of-requires : goal.source_of-requires
+pub source_of-s-requires : goal.source_of-s-requires
 unfolding kind_at
-source_of-requires c =
+source_of-s-requires c =
     table_fits source_table (kind_bits ∷ source_slot_bits ∷ bits_by piece_table) [] c.args.v.now refl c.requires
 
 pub returns : goal.returns
 unfolding kind_at
 returns c =
-    c.source_of.ensures ∙ ap₂ (λ (p : Piece) (l : List ℕ). source_of (Uncut p) l) c.piece_of.ensures (sym (drop-drop 3 2 c.args.v.now))
+    c.source_of-s.ensures ∙ ap₂ (λ (p : Piece) (l : List ℕ). source_of (Uncut p) l) c.piece_of.ensures (sym (drop-drop 3 2 c.args.v.now))
