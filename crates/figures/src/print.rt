@@ -10,16 +10,20 @@ pub fn text(rt: &HostRuntime, bytes: &[u8]) {
 }
 
 // The name k of a list, one to a line.
+// Byte by byte, and a number, a refusal and the line's end each by itself: an output that fails for a while loses what it lost before.
 pub fn name(rt: &HostRuntime, names: &[u8], k: usize) {
     if let Some(line) = names.split(|b| *b == b'\n').nth(k) {
-        text(rt, line);
+        for b in line {
+            text(rt, &[*b]);
+        }
     }
 }
 
 // A number.
 pub fn number(rt: &HostRuntime, names: &[u8], k: usize, n: u64) {
     name(rt, names, k);
-    let _ = println!(rt; "{n}");
+    let _ = rt.print(n);
+    text(rt, b"\n");
 }
 
 // A level, which may be below 0: what it adds less what it takes off.
@@ -48,14 +52,12 @@ pub fn word(rt: &HostRuntime, names: &[u8], k: usize, outcome: &[u8]) {
 // A refusal, by its number.
 pub fn refusal(rt: &HostRuntime, names: &[u8], k: usize, why: Refusal) {
     name(rt, names, k);
-    let number = answer::number(why);
-    let _ = println!(rt; "refused {number}");
+    number(rt, b"refused ", 0, u64::from(answer::number(why)));
 }
 
 // A refusal, by its number and its place.
 pub fn refusal_at(rt: &HostRuntime, names: &[u8], k: usize, why: Refusal) {
-    name(rt, names, k);
-    let number = answer::number(why);
-    let place = answer::place(why);
-    let _ = println!(rt; "refused {number} at {place}");
+    word(rt, names, k, b"refused ");
+    let _ = rt.print(answer::number(why));
+    number(rt, b" at ", 0, u64::from(answer::place(why)));
 }

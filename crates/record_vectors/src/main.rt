@@ -16,10 +16,12 @@ fn print_bytes(rt: &HostRuntime, bytes: &[u8]) {
     }
 }
 
+// In four parts, and a length in two: an output that fails for a while loses what it lost before.
 fn print_refusal(rt: &HostRuntime, why: Refusal) {
-    let number = answer::number(why);
-    let place = answer::place(why);
-    let _ = print!(rt; "refused {number} at {place}");
+    print(rt, b"refused ");
+    let _ = rt.print(answer::number(why));
+    print(rt, b" at ");
+    let _ = rt.print(answer::place(why));
 }
 
 // Writes a call, and prints why not, if it is refused, and what the output holds then.
@@ -35,7 +37,8 @@ fn write(rt: &HostRuntime, call: Request, source: Source, out: &mut [u8]) {
 // Reads a job, prints the length of the part, and writes the record again.
 fn again(rt: &HostRuntime, job: &[u8]) {
     let length = record::part(job).len();
-    let _ = print!(rt; "{length} ");
+    let _ = rt.print(length);
+    print(rt, b" ");
     let reading = record::read(job);
     match reading.told {
         Ok(call) => {
