@@ -87,6 +87,10 @@ number_bytes n x h =
     ap₂ take f (ap (drop (8 - n)) (high_first 8 x ∙ ap (λ (k : ℕ). bytes_of k x) e) ∙ last_bytes (8 - n) n x)
     ∙ take-length (bytes_of n x)
 
+-- and of bytes that are those of a number which is x
+pub same_bytes : (n x y : ℕ) (b : List ℕ) → b ≡ to_be_bytes w64 y → y ≡ x → n ≤ 8 → take (8 - (8 - n)) (drop (8 - n) b) ≡ bytes_of n x
+same_bytes n x y b e f h = rw (e, f) (number_bytes n x h)
+
 -- where nothing is left to write, it is written
 pub number_done : (s t : List ℕ) (i left x : ℕ) → left ≤ 0 → over i (bytes_of left x) s ≡ t → s ≡ t
 number_done s t i left x h e =

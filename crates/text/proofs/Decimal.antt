@@ -146,7 +146,7 @@ length_log (suc k) n h l =
     let q = ten_pos k in
     omega (arith, length_more n (omega arith), length_log k (n / 10) (omega arith) (omega arith))
 
-pub length_digits : (k n m : ℕ) → m ≡ max n 1 → 10 ^ k ≤ m → m < 10 * 10 ^ k → length (decimal n) ≡ k + 1
+pub length_digits : (k n m : ℕ) → (n ≤ m) × (m ≤ max n 9) → 10 ^ k ≤ m → m < 10 * 10 ^ k → length (decimal n) ≡ k + 1
 length_digits zero n m e h l = length_one n (omega arith)
 length_digits (suc k) n m e h l =
     let p : 10 ^ suc k ≡ 10 ^ k * 10 = pow-suc 10 k in
